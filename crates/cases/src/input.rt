@@ -1,56 +1,13 @@
 // Decimal numbers from standard input. Anything that is no digit and no minus sign stands between two numbers.
-use std::io::Stdin;
+use protocol::{Item, Parts, Session, Settings, WIDTH};
+use std::io::{Read, Stdin};
 
-// What was read: the bytes from `at` to `end` are still to be used. What follows them comes from `from`.
-#[derive(Clone, Copy)]
-pub struct Input {
-    pub bytes: [u8; 4096],
-    pub end: usize,
-    pub at: usize,
-    pub from: Stdin,
-}
-
-// A number as far as it was read: whether it has begun, and whether the byte behind it was seen.
+// A number as far as it was read, and whether it has begun.
 #[derive(Clone, Copy)]
 pub struct Value {
-    pub magnitude: u64,
-    pub negative: bool,
-    pub begun: bool,
-    pub whole: bool,
-}
-
-#[derive(Clone, Copy)]
-struct Scanned {
-    value: Value,
-    at: usize,
-}
-
-// A number and what is left of the input. At the end of the input every number is 0, and `ended` is true.
-#[derive(Clone, Copy)]
-pub struct Taken {
-    pub value: Value,
-    pub ended: bool,
-    pub next: Input,
-}
-
-// A byte as it is, and what is left of the input. At the end of the input every byte is 0.
-#[derive(Clone, Copy)]
-pub struct ByteTaken {
-    pub byte: u8,
-    pub next: Input,
-}
-
-// One digit more; what is past 64 bits becomes the largest number.
-fn with_digit(magnitude: u64, digit: u8) -> u64 {
-    if magnitude > 1844674407370955161 {
-        return 18446744073709551615;
-    }
-    let tens = magnitude * 10;
-    let units = (digit % 10) as u64;
-    if units > 18446744073709551615 - tens {
-        return 18446744073709551615;
-    }
-    tens + units
+    magnitude: u64,
+    negative: bool,
+    begun: bool,
 }
 
 impl Value {
@@ -59,175 +16,223 @@ impl Value {
             magnitude: 0,
             negative: false,
             begun: false,
-            whole: false,
         }
     }
 
-    fn with_byte(self, byte: u8) -> Value {
-        let mut next = self;
-        if byte == b'-' {
-            next.negative = true;
-            next.begun = true;
-            return next;
+    // One byte more; none where the byte ends the number. What is past 64 bits becomes the largest number.
+    fn with_byte(self, byte: u8) -> Option<Value> {
+        match byte {
+            b'-' => Some(Value {
+                negative: true,
+                begun: true,
+                ..self
+            }),
+            b'0'..=b'9' => Some(Value {
+                magnitude: self
+                    .magnitude
+                    .saturating_mul(10)
+                    .saturating_add(u64::from(byte - b'0')),
+                begun: true,
+                ..self
+            }),
+            _ if self.begun => None,
+            _ => Some(self),
         }
-        if byte >= 48 {
-            if byte <= 57 {
-                next.magnitude = with_digit(self.magnitude, byte - 48);
-                next.begun = true;
-                return next;
-            }
-        }
-        next.whole = self.begun;
-        next
-    }
-
-    // As an unsigned number of 64 bits; the nearest where it is none.
-    pub fn residue(self) -> u64 {
-        if self.negative {
-            return 0;
-        }
-        self.magnitude
-    }
-
-    // As an unsigned number of 32 bits; the nearest where it is none.
-    pub fn narrow(self) -> u32 {
-        if self.negative {
-            return 0;
-        }
-        if self.magnitude > 4294967295 {
-            return 4294967295;
-        }
-        self.magnitude as u32
-    }
-
-    // As a byte; the nearest where it is none.
-    pub fn byte(self) -> u8 {
-        if self.negative {
-            return 0;
-        }
-        if self.magnitude > 255 {
-            return 255;
-        }
-        self.magnitude as u8
-    }
-
-    // As a signed number of 64 bits; the nearest where it is none.
-    pub fn wide(self) -> i64 {
-        let m = self.magnitude;
-        if self.negative {
-            if m > 9223372036854775807 {
-                return -9223372036854775808;
-            }
-            return -(m as i64);
-        }
-        if m > 9223372036854775807 {
-            return 9223372036854775807;
-        }
-        m as i64
-    }
-
-    // As a signed number of 32 bits; the nearest where it is none.
-    pub fn signed(self) -> i32 {
-        let m = self.magnitude;
-        if self.negative {
-            if m > 2147483647 {
-                return -2147483648;
-            }
-            return -(m as i32);
-        }
-        if m > 2147483647 {
-            return 2147483647;
-        }
-        m as i32
     }
 }
 
-// Goes on with a number over the bytes from `at` to `end`, until it is whole.
-fn scan(bytes: &[u8; 4096], end: usize, at: usize, value: Value) -> Scanned {
-    let mut next = value;
-    let mut i = at;
-    while i < end {
-        if i >= 4096 {
-            return Scanned { value: next, at: i };
-        }
-        next = next.with_byte(bytes[i]);
-        i += 1;
-        if next.whole {
-            return Scanned { value: next, at: i };
+// As an unsigned number; the nearest where it is none.
+impl From<Value> for u64 {
+    fn from(value: Value) -> u64 {
+        if value.negative { 0 } else { value.magnitude }
+    }
+}
+
+impl From<Value> for u32 {
+    fn from(value: Value) -> u32 {
+        u32::try_from(u64::from(value)).unwrap_or(u32::MAX)
+    }
+}
+
+impl From<Value> for u8 {
+    fn from(value: Value) -> u8 {
+        u8::try_from(u64::from(value)).unwrap_or(u8::MAX)
+    }
+}
+
+// As a signed number; the nearest where it is none.
+impl From<Value> for i64 {
+    fn from(value: Value) -> i64 {
+        match i64::try_from(value.magnitude) {
+            Ok(magnitude) if value.negative => -magnitude,
+            Ok(magnitude) => magnitude,
+            Err(_) if value.negative => i64::MIN,
+            Err(_) => i64::MAX,
         }
     }
-    Scanned { value: next, at: i }
+}
+
+impl From<Value> for i32 {
+    fn from(value: Value) -> i32 {
+        let wide = i64::from(value);
+        i32::try_from(wide).unwrap_or(if wide < 0 { i32::MIN } else { i32::MAX })
+    }
+}
+
+// Is it other than 0.
+impl From<Value> for bool {
+    fn from(value: Value) -> bool {
+        value.magnitude != 0
+    }
+}
+
+// What was read: the bytes from `at` to `end` are still to be used. What follows them comes from `from`.
+#[derive(Drop)]
+pub struct Input {
+    from: Stdin,
+    bytes: [u8; 4096],
+    end: usize,
+    at: usize,
 }
 
 impl Input {
     // Nothing of the input is read yet.
-    pub fn none(from: Stdin) -> Input {
+    pub fn new(from: Stdin) -> Input {
         Input {
+            from,
             bytes: [0; 4096],
             end: 0,
             at: 0,
-            from: from,
         }
     }
 
-    // The next bytes of standard input; none where it has ended, or a read fails.
-    fn read(from: Stdin) -> Input {
-        let mut bytes = [0u8; 4096];
-        let mut reader = from;
-        let read = streams::read(&mut reader, &mut bytes);
-        Input {
-            bytes: bytes,
-            end: read.count,
-            at: 0,
-            from: from,
+    // The next byte; none where the input has ended, or a read fails.
+    fn next(&mut self) -> Option<u8> {
+        if self.at >= self.end {
+            self.end = self.from.read(&mut self.bytes).unwrap_or(0);
+            self.at = 0;
         }
+        if self.at >= self.end {
+            return None;
+        }
+        let byte = self.bytes.get(self.at).copied();
+        self.at = self.at.saturating_add(1);
+        byte
     }
 
-    // The next number. Nothing says that the input ends, so the loop counts its turns down, from a number that no run uses up.
-    pub fn number(self) -> Taken {
-        let mut input = self;
+    // The next number; none at the end of the input.
+    pub fn number(&mut self) -> Option<Value> {
         let mut value = Value::none();
-        let mut turns = u64::MAX;
-        while turns > 0 {
-            turns -= 1;
-            let scanned = scan(&input.bytes, input.end, input.at, value);
-            value = scanned.value;
-            input.at = scanned.at;
-            if value.whole {
+        for _ in 0..u64::MAX {
+            let Some(byte) = self.next() else {
                 break;
-            }
-            input = Input::read(input.from);
-            if input.end == 0 {
+            };
+            let Some(more) = value.with_byte(byte) else {
                 break;
-            }
+            };
+            value = more;
         }
-        Taken {
-            value: value,
-            ended: !value.begun,
-            next: input,
+        if value.begun { Some(value) } else { None }
+    }
+
+    // The next number as one of a type; 0 at the end of the input.
+    pub fn given<T: From<Value>>(&mut self) -> T {
+        T::from(self.number().unwrap_or(Value::none()))
+    }
+
+    // The next byte, whatever it is; 0 at the end of the input.
+    fn byte(&mut self) -> u8 {
+        self.next().unwrap_or(0)
+    }
+
+    // The front of a room that is as long as the next number says, or the whole of it.
+    fn front<'a, T>(&mut self, room: &'a mut [T]) -> &'a mut [T] {
+        let wanted = self.number().unwrap_or(Value::none()).magnitude;
+        let count = usize::try_from(wanted)
+            .unwrap_or(usize::MAX)
+            .min(room.len());
+        &mut room[..count]
+    }
+
+    // A table: its length and then its numbers, put at the front of a room. Numbers past the room are not read.
+    pub fn table<'a, T: Copy + From<Value>>(&mut self, room: &'a mut [T]) -> &'a mut [T] {
+        let table = self.front(room);
+        for x in table.iter_mut() {
+            *x = self.given();
+        }
+        table
+    }
+
+    // A text: its length, one byte that ends that number, and its bytes as they are.
+    pub fn text<'a>(&mut self, room: &'a mut [u8]) -> &'a mut [u8] {
+        let text = self.front(room);
+        for x in text.iter_mut() {
+            *x = self.byte();
+        }
+        text
+    }
+
+    // An output slice before it is written: its length, and the byte at all its places.
+    pub fn blank<'a>(&mut self, room: &'a mut [u8]) -> &'a mut [u8] {
+        let text = self.front(room);
+        text.fill(self.given());
+        text
+    }
+
+    // An element of each row by value: a table whose places behind the ones given are 0.
+    pub fn item(&mut self) -> Item {
+        let mut places: Item = [0; protocol::ROWS_WIDTH];
+        self.table(&mut places);
+        places
+    }
+
+    // An element of whole numbers.
+    pub fn element(&mut self) -> [i32; WIDTH] {
+        let mut places = [0i32; WIDTH];
+        self.table(&mut places);
+        places
+    }
+
+    // Five numbers: d, L, q, B, rows.
+    pub fn settings(&mut self) -> Settings {
+        Settings {
+            degree: self.given(),
+            depth: self.given(),
+            modulus: self.given(),
+            bound: self.given(),
+            rows: self.given(),
         }
     }
 
-    // The next byte, whatever it is.
-    pub fn byte(self) -> ByteTaken {
-        let mut input = self;
-        if input.at >= input.end {
-            input = Input::read(input.from);
+    // A session record: settings, rounds done, 1 where it is closed, the claims and the eight challenges.
+    pub fn session(&mut self) -> Session {
+        let settings = self.settings();
+        let done = self.given();
+        let closed = self.given();
+        let claims = self.item();
+        let mut challenges = [0u32; 8];
+        for e in challenges.iter_mut() {
+            *e = self.given();
         }
-        let at = input.at;
-        if at < input.end {
-            if at < 4096 {
-                let byte = input.bytes[at];
-                input.at = at + 1;
-                return ByteTaken {
-                    byte: byte,
-                    next: input,
-                };
-            }
+        Session {
+            settings,
+            done,
+            claims,
+            challenges,
+            closed,
         }
-        ByteTaken {
-            byte: 0,
-            next: input,
+    }
+
+    // Seven numbers: 1 where part 1 to 7 is there, else 0.
+    pub fn parts(&mut self) -> Parts {
+        Parts {
+            key: self.given(),
+            message: self.given(),
+            commitment: self.given(),
+            rounds: self.given(),
+            challenges: self.given(),
+            last: self.given(),
+            claims: self.given(),
         }
     }
 }

@@ -7,47 +7,49 @@ mod extracting;
 mod input;
 mod openings;
 mod output;
-mod tables;
 mod texts;
 mod verifying;
 
 use crate::input::Input;
+use protocol::WIDTH;
 
-fn run(rt: &impl Print, call: u32, input: Input) -> Input {
+// Room for a message or a row of a key, which have 2^8 elements at most, for the rounds, challenges or leaves of a tree; for a vector; and for a text, and some that
+// are longer than the longest. A key of several rows is a case only where it fits.
+const ROOM: usize = 256 * WIDTH;
+
+const VECTOR_ROOM: usize = 1024;
+
+const TEXT_ROOM: usize = 65600;
+
+fn run(rt: &impl Print, call: u32, input: &mut Input) {
     match call {
-        1 => openings::run_commit(rt, input),
-        2 => openings::run_round(rt, input),
-        3 => openings::run_fold(rt, input),
-        4 => openings::run_end(rt, input),
-        5 => openings::run_opening(rt, input),
-        6 => verifying::run_start(rt, input),
-        7 => verifying::run_round(rt, input),
-        8 => verifying::run_end(rt, input),
-        9 => verifying::run_check(rt, input),
-        10 => extracting::run_judge(rt, input),
-        11 => extracting::run_extract(rt, input),
-        12 => texts::run_read(rt, input),
-        13 => texts::run_write(rt, input),
-        15 => texts::run_verify(rt, input),
-        _ => unknown(rt, input),
+        1 => openings::commit(rt, input),
+        2 => openings::round(rt, input),
+        3 => openings::fold(rt, input),
+        4 => openings::end(rt, input),
+        5 => openings::opening(rt, input),
+        6 => verifying::start(rt, input),
+        7 => verifying::round(rt, input),
+        8 => verifying::end(rt, input),
+        9 => verifying::check(rt, input),
+        10 => extracting::judge(rt, input),
+        11 => extracting::extract(rt, input),
+        12 => texts::read(rt, input),
+        13 => texts::write(rt, input),
+        15 => texts::verify(rt, input),
+        // A call that is not run here.
+        _ => {
+            let _ = println!(rt; "unknown");
+        }
     }
 }
 
-// A call that is not run here.
-fn unknown(rt: &impl Print, input: Input) -> Input {
-    let _ = println!(rt; "unknown");
-    input
-}
-
 fn main(rt: HostRuntime) {
-    let mut input = Input::none(rt.stdin());
-    let mut turns = u64::MAX;
-    while turns > 0 {
-        turns -= 1;
-        let call = input.number();
-        if call.ended {
+    let mut input = Input::new(rt.stdin());
+    for _ in 0..u64::MAX {
+        let Some(call) = input.number() else {
             return;
-        }
-        input = run(&rt, call.value.narrow(), call.next);
+        };
+        run(&rt, u32::from(call), &mut input);
     }
 }

@@ -1,157 +1,86 @@
-// The prover's calls. Each `run` reads a case's inputs and gives what is left of the input; each `answer` makes the call and prints what it gives.
+// The prover's calls. Each function reads a case's inputs, makes its call and prints what it gives.
+use crate::ROOM;
 use crate::input::Input;
-use crate::{output, tables};
-use protocol::Settings;
+use crate::output;
+use protocol::{Outcome, ROWS_WIDTH, Refusal, WIDTH};
 
-fn answer_commit(rt: &impl Print, settings: Settings, key: &[u64], message: &[i32]) {
+pub fn commit(rt: &impl Print, input: &mut Input) {
+    let settings = input.settings();
+    let mut key_room = [0u64; ROOM];
+    let key = input.table(&mut key_room);
+    let mut message_room = [0i32; ROOM];
+    let message = input.table(&mut message_room);
     let answer = prover::commit(settings, key, message);
-    let commitment = answer.commitment;
-    output::first(rt, answer.refusal);
-    output::element(rt, commitment);
+    output::refusal(rt, answer);
+    output::item(rt, &answer.unwrap_or([0; ROWS_WIDTH]));
     output::end(rt);
 }
 
-pub fn run_commit(rt: &impl Print, input: Input) -> Input {
-    let given = tables::settings(input);
-    let mut key = tables::residue_room();
-    let keys = tables::residues(given.next, &mut key);
-    let mut message = tables::signed_room();
-    let messages = tables::signeds(keys.next, &mut message);
-    let n = keys.count;
-    let m = messages.count;
-    answer_commit(rt, given.settings, &key[..n], &message[..m]);
-    messages.next
-}
-
-fn answer_round(rt: &impl Print, settings: Settings, t: u32, key: &[u64], message: &[i32]) {
+pub fn round(rt: &impl Print, input: &mut Input) {
+    let settings = input.settings();
+    let t = input.given();
+    let mut key_room = [0u64; ROOM];
+    let key = input.table(&mut key_room);
+    let mut message_room = [0i32; ROOM];
+    let message = input.table(&mut message_room);
     let answer = prover::round(settings, t, key, message);
-    let elements = prover::elements_of(answer);
-    let c0 = elements[0];
-    let c1 = elements[1];
-    let c2 = elements[2];
-    output::first(rt, answer.refusal);
-    output::element(rt, c0);
-    output::element(rt, c1);
-    output::element(rt, c2);
+    output::refusal(rt, answer);
+    for c in &answer.unwrap_or([[0; ROWS_WIDTH]; 3]) {
+        output::item(rt, c);
+    }
     output::end(rt);
 }
 
-pub fn run_round(rt: &impl Print, input: Input) -> Input {
-    let given = tables::settings(input);
-    let t = given.next.number();
-    let mut key = tables::residue_room();
-    let keys = tables::residues(t.next, &mut key);
-    let mut message = tables::signed_room();
-    let messages = tables::signeds(keys.next, &mut message);
-    let n = keys.count;
-    let m = messages.count;
-    answer_round(
-        rt,
-        given.settings,
-        t.value.narrow(),
-        &key[..n],
-        &message[..m],
-    );
-    messages.next
-}
-
-fn answer_fold(
-    rt: &impl Print,
-    settings: Settings,
-    t: u32,
-    e: u32,
-    key: &mut [u64],
-    message: &mut [i32],
-) {
-    let number = prover::fold(settings, t, e, key, message);
-    output::first(rt, number);
-    output::residues(rt, key);
-    output::signeds(rt, message);
+pub fn fold(rt: &impl Print, input: &mut Input) {
+    let settings = input.settings();
+    let t = input.given();
+    let e = input.given();
+    let mut key_room = [0u64; ROOM];
+    let key = input.table(&mut key_room);
+    let mut message_room = [0i32; ROOM];
+    let message = input.table(&mut message_room);
+    output::refusal(rt, prover::fold(settings, t, e, key, message));
+    output::table(rt, key);
+    output::table(rt, message);
     output::end(rt);
 }
 
-pub fn run_fold(rt: &impl Print, input: Input) -> Input {
-    let given = tables::settings(input);
-    let t = given.next.number();
-    let e = t.next.number();
-    let mut key = tables::residue_room();
-    let keys = tables::residues(e.next, &mut key);
-    let mut message = tables::signed_room();
-    let messages = tables::signeds(keys.next, &mut message);
-    let n = keys.count;
-    let m = messages.count;
-    answer_fold(
-        rt,
-        given.settings,
-        t.value.narrow(),
-        e.value.narrow(),
-        &mut key[..n],
-        &mut message[..m],
-    );
-    messages.next
-}
-
-fn answer_end(rt: &impl Print, settings: Settings, t: u32, message: &[i32]) {
+pub fn end(rt: &impl Print, input: &mut Input) {
+    let settings = input.settings();
+    let t = input.given();
+    let mut message_room = [0i32; ROOM];
+    let message = input.table(&mut message_room);
     let answer = prover::end(settings, t, message);
-    let last = answer.last;
-    output::first(rt, answer.refusal);
-    output::signed_element(rt, last);
+    output::refusal(rt, answer);
+    output::element(rt, &answer.unwrap_or([0; WIDTH]));
     output::end(rt);
 }
 
-pub fn run_end(rt: &impl Print, input: Input) -> Input {
-    let given = tables::settings(input);
-    let t = given.next.number();
-    let mut message = tables::signed_room();
-    let messages = tables::signeds(t.next, &mut message);
-    let m = messages.count;
-    answer_end(rt, given.settings, t.value.narrow(), &message[..m]);
-    messages.next
-}
-
-fn answer_opening(
-    rt: &impl Print,
-    settings: Settings,
-    key: &mut [u64],
-    message: &mut [i32],
-    challenges: &[u32],
-    rounds: &mut [u64],
-) {
+pub fn opening(rt: &impl Print, input: &mut Input) {
+    let settings = input.settings();
+    let mut key_room = [0u64; ROOM];
+    let key = input.table(&mut key_room);
+    let mut message_room = [0i32; ROOM];
+    let message = input.table(&mut message_room);
+    let mut challenge_room = [0u32; ROOM];
+    let challenges = input.table(&mut challenge_room);
+    let mut round_room = [0u64; ROOM];
+    let rounds = input.table(&mut round_room);
     let answer = opening::open(settings, key, message, challenges, rounds);
-    let commitment = answer.commitment;
-    let last = answer.last;
-    let verdict = answer.verdict;
-    output::first(rt, answer.refusal);
-    output::verdict(rt, verdict);
-    output::element(rt, commitment);
-    output::signed_element(rt, last);
-    output::residues(rt, key);
-    output::signeds(rt, message);
-    output::residues(rt, rounds);
+    output::refusal(rt, answer);
+    output::verdict(rt, answer.map(|outcome| outcome.verdict));
+    match answer {
+        Ok(outcome) => {
+            output::item(rt, &outcome.commitment);
+            output::element(rt, &outcome.last);
+        }
+        Err(_) => {
+            output::item(rt, &[0; ROWS_WIDTH]);
+            output::element(rt, &[0; WIDTH]);
+        }
+    }
+    output::table(rt, key);
+    output::table(rt, message);
+    output::table(rt, rounds);
     output::end(rt);
-}
-
-pub fn run_opening(rt: &impl Print, input: Input) -> Input {
-    let given = tables::settings(input);
-    let mut key = tables::residue_room();
-    let keys = tables::residues(given.next, &mut key);
-    let mut message = tables::signed_room();
-    let messages = tables::signeds(keys.next, &mut message);
-    let mut challenge = tables::challenge_room();
-    let challenges = tables::challenges(messages.next, &mut challenge);
-    let mut round = tables::residue_room();
-    let rounds = tables::residues(challenges.next, &mut round);
-    let n = keys.count;
-    let m = messages.count;
-    let l = challenges.count;
-    let k = rounds.count;
-    answer_opening(
-        rt,
-        given.settings,
-        &mut key[..n],
-        &mut message[..m],
-        &challenge[..l],
-        &mut round[..k],
-    );
-    rounds.next
 }

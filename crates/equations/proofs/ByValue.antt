@@ -1,38 +1,30 @@
 -- What is passed by value for each row: the part from a row's place on is the row; and a row's part of a key.
-use mathlib.Core.Path.{◌≡◌, refl, sym, ap, ◌∙◌, subst}
-use mathlib.Core.Bool.{Bool, true, ◌&&◌}
-use mathlib.Core.List.{List, [], ◌∷◌, ◌++◌}
+use mathlib.Core.Path.{◌≡◌, sym, ap, ◌∙◌, subst}
+use mathlib.Core.Bool.{true}
+use mathlib.Core.List.{List}
 use Prim.Native.Nat.{ℕ, ◌+◌, ◌*◌, ◌-◌, ◌<◌, ◌≤◌}
 use native.Mathlib.Nat as Nat
-use native.Mathlib.Decide.{dec_lt}
 use native.Mathlib.Omega.{arith}
-use borrow.Author.Tests.{lt-ltb, le-ltb, ltb-true}
+use borrow.Author.Tests.{ltb-true}
 use lib.Dec.{ltb}
-use borrow.Rule.Slice.PartMut.{put_mid}
-use lib.ListN.{length, get_or, take, drop, replicate, length-drop, length-replicate, drop_of_length-le}
+use lib.ListN.{length, get_or, take, drop, length-drop}
 use lib.Seq.{get_or-drop, get_or-take, length-take-le}
 use Rattle.protocol.specs.declared.Settings.{Settings}
-use Rattle.protocol.specs.Basic.{every, tabulate, flat, choose}
-use Rattle.protocol.specs.Element.{width, zeros, value_row, residue, reduced}
-use Rattle.protocol.specs.Layout.{rows_most, rows_width, key_cells}
+use Rattle.protocol.specs.Basic.{tabulate}
+use Rattle.protocol.specs.Element.{width, value_row}
+use Rattle.protocol.specs.Layout.{rows_most, key_cells}
 use Rattle.protocol.specs.Settings.{settings_refusal, cells, residue_element, residue_rows}
-use Rattle.protocol.specs.Transcript.{next_claim}
 use Rattle.protocol.specs.Inputs.{Valid}
 use Rattle.protocol.proofs.Inputs.{settings-valid}
-use Rattle.protocol.specs.Rows.{key_row, at_rows}
-use Rattle.protocol.proofs.Reading.{row_inside, tabulate_at, tabulate_ext, tabulate_own, flat-length, flat_at, flat-own, flat_ext}
+use Rattle.protocol.specs.Rows.{key_row}
+use Rattle.protocol.proofs.Reading.{row_inside, tabulate_ext, tabulate_own}
 use Rattle.protocol.proofs.Rows.{key-cells}
 use Rattle.protocol.proofs.Tests.{every_at}
-use Rattle.residues.specs.Lists.{spliced}
-use Rattle.residues.specs.Residues.{Residues}
-use Rattle.rotations.specs.Values.{value_at}
 use Rattle.sizes.specs.Most.{cells_most}
 use Rattle.sizes.proofs.Limits.{cells_most_lem}
-use Rattle.residues.proofs.Fill.{replicate_at}
 use Rattle.residues.proofs.Parts.{tail_all}
-use Rattle.residues.proofs.Splice.{spliced-length, spliced-before, spliced-inside, spliced-behind}
 use Rattle.equations.specs.Given.{ElementReduced}
-use Rattle.equations.proofs.Polynomials.{part, part-long}
+use Rattle.equations.proofs.Polynomials.{part}
 
 pub value-part : (C : List ℕ) (i : ℕ) → part (i * width) C ≡ value_row C i
 unfolding value_row

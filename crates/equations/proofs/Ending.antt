@@ -1,17 +1,17 @@
 -- The end of a transcript: the bound in numbers, and the last equation coefficient by coefficient.
-use mathlib.Core.Path.{◌≡◌, refl, sym, ap, ◌∙◌, subst}
+use mathlib.Core.Path.{◌≡◌, sym, ap, ◌∙◌}
 use mathlib.Core.Bool.{true}
 use mathlib.Core.List.{List}
-use Prim.Native.Nat.{ℕ, ◌*◌, ◌%◌, ◌^◌, ◌<◌, ◌≤◌}
+use Prim.Native.Nat.{ℕ, ◌*◌, ◌%◌, ◌^◌, ◌≤◌}
 use native.Mathlib.Nat as Nat
 use native.Mathlib.Omega.{arith}
 use borrow.Author.Tests.{leb-true}
 use lib.Dec.{eqb}
-use lib.IntN.{ℤ, pos, nat_abs}
+use lib.IntN.{ℤ}
 use lib.ListN.{length, get_or}
 use Rattle.protocol.specs.declared.Settings.{Settings}
 use Rattle.protocol.specs.Basic.{every, within}
-use Rattle.protocol.specs.Element.{Element, modulo, product, signed, residue}
+use Rattle.protocol.specs.Element.{modulo, product, signed, residue}
 use Rattle.protocol.specs.Settings.{size, half}
 use Rattle.protocol.specs.Transcript.{final_bounded, ending, end_holds}
 use Rattle.protocol.proofs.Modulo.{modulo-lt, modulo_times}

@@ -52,14 +52,7 @@ pub fn round_holds(settings: Settings, claim: &[Residue], c0: &[Residue], c2: &[
     if c2.len() < d {
         return false;
     }
-    let mut k: usize = 0;
-    while k < d {
-        if !doubled_is(q, c0[k], c2[k], claim[k]) {
-            return false;
-        }
-        k += 1;
-    }
-    true
+    (0..d).all(|k| doubled_is(q, c0[k], c2[k], claim[k]))
 }
 
 // The claim after a round: c0 + r·c1 + r²·c2, r = X^e.
@@ -86,14 +79,7 @@ fn final_bounded(settings: Settings, f: &[i32]) -> bool
 {
     let d = settings.degree as usize;
     let limit = sizes::left_bound(settings, settings.depth);
-    let mut k: usize = 0;
-    while k < d {
-        if ranges::tests::magnitude(f[k]) > limit {
-            return false;
-        }
-        k += 1;
-    }
-    true
+    f[..d].iter().all(|x| x.unsigned_abs() <= limit)
 }
 
 // Is the claim half^L·f·g, where f has no coefficient beyond ±n·B: half^L is 1/2^L.

@@ -5,6 +5,9 @@
 #![tactic(auto)]
 
 ghost use Rattle.std.specs.Prelude.{◌≡◌};
+ghost use Rattle.protocol.specs.Answers.{as_verdict, as_written};
+ghost use Rattle.protocol.specs.Refusal.{refusal_of};
+ghost use Rattle.protocol.specs.Session.{verdict_number};
 ghost use Rattle.protocol.specs.Settings.{settings_refusal};
 ghost use Rattle.protocol.specs.Promises.{Folded};
 ghost use Rattle.slices.specs.Slices.{given};
@@ -14,8 +17,58 @@ ghost use Rattle.text_format.specs.Programs.{checked, verify_answer};
 ghost use Rattle.text_calls.specs.Promises.{Looked, ReadStored, WroteStored, Verdicts, ProvedStored};
 ghost use Rattle.exports.specs.Promises.{CommitStored, RoundStored, EndStored, OpeningStored, CheckStored, JudgeStored, ExtractStored};
 
-use protocol::Settings;
+use protocol::{Refusal, Settings, Verdict};
 use ranges::tests;
+
+// The settings of a call.
+fn given(degree: u32, depth: u32, modulus: u64, bound: u32, rows: u32) -> Settings
+    ensures { result ≡ given degree depth modulus bound rows }
+{
+    Settings {
+        degree,
+        depth,
+        modulus,
+        bound,
+        rows,
+    }
+}
+
+// The number of a call's refusal; 0 where nothing is refused.
+fn number(answer: Result<(), Refusal>) -> u32
+    ensures { result ≡ refusal_of answer }
+{
+    match answer {
+        Ok(()) => 0,
+        Err(refusal) => refusal.number(),
+    }
+}
+
+// The same of a call that says something: what it says goes to `verdict` as a number, 0 where it is refused.
+fn told(answer: Result<Verdict, Refusal>, verdict: &mut u32) -> u32
+    ensures { (result ≡ refusal_of answer) × (verdict.new ≡ verdict_number (as_verdict answer)) }
+{
+    match answer {
+        Ok(said) => {
+            *verdict = slices::verdict_number(said);
+            0
+        }
+        Err(refusal) => {
+            *verdict = 0;
+            refusal.number()
+        }
+    }
+}
+
+// The same of a call that writes a text: its length goes to `count`, 0 where it is refused.
+fn counted(answer: Result<usize, Refusal>, count: &mut usize) -> u32
+    ensures { (result ≡ refusal_of answer) × (count.new ≡ (as_written answer).count) }
+{
+    *count = answer.unwrap_or(0);
+    match answer {
+        Ok(_) => 0,
+        Err(refusal) => refusal.number(),
+    }
+}
 
 // Refusals 3 to 6 and 16.
 #[unsafe(no_mangle)]
@@ -28,14 +81,7 @@ pub extern "C" fn wovenrock_settings(
 ) -> u32
     ensures { result ≡ settings_refusal (given degree depth modulus bound rows) }
 {
-    let s = Settings {
-        degree: degree,
-        depth: depth,
-        modulus: modulus,
-        bound: bound,
-        rows: rows,
-    };
-    tests::settings_refusal(s)
+    number(tests::allow(given(degree, depth, modulus, bound, rows)))
 }
 
 // Commit: the commitment goes to the slice `commitment`.
@@ -52,18 +98,11 @@ pub extern "C" fn wovenrock_commit(
 ) -> u32
     ensures { CommitStored (given degree depth modulus bound rows) key.now message.now commitment.old result commitment.new }
 {
-    let s = Settings {
-        degree: degree,
-        depth: depth,
-        modulus: modulus,
-        bound: bound,
-        rows: rows,
-    };
-    let refusal = slices::refusal(s, commitment.len() == sizes::item_cells(s));
-    if refusal != 0 {
-        return refusal;
+    let s = given(degree, depth, modulus, bound, rows);
+    if let Err(refusal) = slices::refusal(s, commitment.len() == sizes::item_cells(s)) {
+        return refusal.number();
     }
-    prover::commit_to(s, key, message, commitment)
+    number(prover::commit_to(s, key, message, commitment))
 }
 
 // The prover's round: the round polynomial of round done + 1 goes to the slice `polynomial`.
@@ -81,24 +120,17 @@ pub extern "C" fn wovenrock_round(
 ) -> u32
     ensures { RoundStored (given degree depth modulus bound rows) done key.now message.now polynomial.old result polynomial.new }
 {
-    let s = Settings {
-        degree: degree,
-        depth: depth,
-        modulus: modulus,
-        bound: bound,
-        rows: rows,
-    };
-    let refusal = slices::refusal(s, polynomial.len() == 3 * sizes::item_cells(s));
-    if refusal != 0 {
-        return refusal;
+    let s = given(degree, depth, modulus, bound, rows);
+    if let Err(refusal) = slices::refusal(s, polynomial.len() == 3 * sizes::item_cells(s)) {
+        return refusal.number();
     }
-    let answer = prover::round(s, done, key, message);
-    if answer.refusal != 0 {
-        return answer.refusal;
+    match prover::round(s, done, key, message) {
+        Ok(elements) => {
+            slices::store_polynomial(s, elements, polynomial);
+            0
+        }
+        Err(refusal) => refusal.number(),
     }
-    let elements = prover::elements_of(answer);
-    slices::store_polynomial(s, elements, polynomial);
-    0
 }
 
 // The fold of both tables by X^e, with `done` rounds done.
@@ -116,14 +148,8 @@ pub extern "C" fn wovenrock_fold(
 ) -> u32
     ensures { Folded (given degree depth modulus bound rows) done exponent key.old message.old result key.new message.new }
 {
-    let s = Settings {
-        degree: degree,
-        depth: depth,
-        modulus: modulus,
-        bound: bound,
-        rows: rows,
-    };
-    prover::fold(s, done, exponent, key, message)
+    let s = given(degree, depth, modulus, bound, rows);
+    number(prover::fold(s, done, exponent, key, message))
 }
 
 // The prover's end: the final element goes to the slice `last`.
@@ -140,24 +166,17 @@ pub extern "C" fn wovenrock_end(
 ) -> u32
     ensures { EndStored (given degree depth modulus bound rows) done message.now last.old result last.new }
 {
-    let s = Settings {
-        degree: degree,
-        depth: depth,
-        modulus: modulus,
-        bound: bound,
-        rows: rows,
-    };
-    let refusal = slices::refusal(s, last.len() == degree as usize);
-    if refusal != 0 {
-        return refusal;
+    let s = given(degree, depth, modulus, bound, rows);
+    if let Err(refusal) = slices::refusal(s, last.len() == degree as usize) {
+        return refusal.number();
     }
-    let answer = prover::end(s, done, message);
-    if answer.refusal != 0 {
-        return answer.refusal;
+    match prover::end(s, done, message) {
+        Ok(element) => {
+            slices::store_wholes(degree, element, last);
+            0
+        }
+        Err(refusal) => refusal.number(),
     }
-    let element = answer.last;
-    slices::store_wholes(degree, element, last);
-    0
 }
 
 // The whole opening: commitment, round elements, final element and verdict.
@@ -180,32 +199,21 @@ pub extern "C" fn wovenrock_open(
         commitment.old last.old result key.new message.new rounds.new commitment.new last.new verdict.new }
 {
     *verdict = 0;
-    let s = Settings {
-        degree: degree,
-        depth: depth,
-        modulus: modulus,
-        bound: bound,
-        rows: rows,
-    };
-    let fits = slices::both(
-        commitment.len() == sizes::item_cells(s),
-        last.len() == degree as usize,
-    );
-    let refusal = slices::refusal(s, fits);
-    if refusal != 0 {
-        return refusal;
+    let s = given(degree, depth, modulus, bound, rows);
+    let fits = (commitment.len() == sizes::item_cells(s))
+        & (last.len() == degree as usize);
+    if let Err(refusal) = slices::refusal(s, fits) {
+        return refusal.number();
     }
-    let answer = opening::open(s, key, message, challenges, rounds);
-    if answer.refusal != 0 {
-        return answer.refusal;
+    match opening::open(s, key, message, challenges, rounds) {
+        Ok(outcome) => {
+            slices::store_residues(s, outcome.commitment, commitment);
+            slices::store_wholes(degree, outcome.last, last);
+            *verdict = slices::verdict_number(outcome.verdict);
+            0
+        }
+        Err(refusal) => refusal.number(),
     }
-    let first = answer.commitment;
-    slices::store_residues(s, first, commitment);
-    let end = answer.last;
-    slices::store_wholes(degree, end, last);
-    let said = answer.verdict;
-    *verdict = slices::verdict_number(said);
-    0
 }
 
 // A session's start at a commitment; the record goes to the slice `session`.
@@ -221,14 +229,8 @@ pub extern "C" fn wovenrock_session_start(
 ) -> u32
     ensures { StartStored (given degree depth modulus bound rows) commitment.now session.old result session.new }
 {
-    let s = Settings {
-        degree: degree,
-        depth: depth,
-        modulus: modulus,
-        bound: bound,
-        rows: rows,
-    };
-    sessions::start(s, commitment, session)
+    let s = given(degree, depth, modulus, bound, rows);
+    number(sessions::start(s, commitment, session))
 }
 
 // A session's round.
@@ -242,7 +244,7 @@ pub extern "C" fn wovenrock_session_round(
     ensures { MoveStored (polynomial_fits polynomial.now session.old) (round_on polynomial.now exponent session.old)
         session.old result session.new verdict.new }
 {
-    sessions::round(polynomial, exponent, session, verdict)
+    told(sessions::round(polynomial, exponent, session), verdict)
 }
 
 // A session's end.
@@ -256,7 +258,7 @@ pub extern "C" fn wovenrock_session_end(
     ensures { MoveStored (last_fits last.now session.old) (end_on last.now key.now session.old)
         session.old result session.new verdict.new }
 {
-    sessions::end(last, key, session, verdict)
+    told(sessions::end(last, key, session), verdict)
 }
 
 // The check of a transcript.
@@ -277,28 +279,19 @@ pub extern "C" fn wovenrock_check(
     ensures { CheckStored (given degree depth modulus bound rows) commitment.now last.now key.now rounds.now
         challenges.now result verdict.new }
 {
-    let s = Settings {
-        degree: degree,
-        depth: depth,
-        modulus: modulus,
-        bound: bound,
-        rows: rows,
-    };
+    let s = given(degree, depth, modulus, bound, rows);
     *verdict = 0;
-    let fits = slices::both(
-        commitment.len() == sizes::item_cells(s),
-        last.len() == degree as usize,
-    );
-    let refusal = slices::refusal(s, fits);
-    if refusal != 0 {
-        return refusal;
+    let fits = (commitment.len() == sizes::item_cells(s))
+        & (last.len() == degree as usize);
+    if let Err(refusal) = slices::refusal(s, fits) {
+        return refusal.number();
     }
     let c = slices::residues(s, commitment);
     let f = slices::wholes(degree, last);
-    let answer = transcripts::check_lent(s, &c, &f, key, rounds, challenges);
-    let said = answer.verdict;
-    *verdict = slices::verdict_number(said);
-    answer.refusal
+    told(
+        transcripts::check_lent(s, &c, &f, key, rounds, challenges),
+        verdict,
+    )
 }
 
 // The judge of relaxed openings.
@@ -317,22 +310,19 @@ pub extern "C" fn wovenrock_judge(
 ) -> u32
     ensures { JudgeStored (given degree depth modulus bound rows) commitment.now slack key.now w.now result yes.new }
 {
-    let s = Settings {
-        degree: degree,
-        depth: depth,
-        modulus: modulus,
-        bound: bound,
-        rows: rows,
-    };
+    let s = given(degree, depth, modulus, bound, rows);
     *yes = 0;
-    let refusal = slices::refusal(s, commitment.len() == sizes::item_cells(s));
-    if refusal != 0 {
-        return refusal;
+    if let Err(refusal) = slices::refusal(s, commitment.len() == sizes::item_cells(s)) {
+        return refusal.number();
     }
     let c = slices::residues(s, commitment);
-    let answer = judge::judge(s, c, slack, key, w);
-    *yes = answer.yes as u32;
-    answer.refusal
+    match judge::judge(s, c, slack, key, w) {
+        Ok(opens) => {
+            *yes = u32::from(opens);
+            0
+        }
+        Err(refusal) => refusal.number(),
+    }
 }
 
 // The extractor: the root's vector goes to the table `w`.
@@ -353,19 +343,14 @@ pub extern "C" fn wovenrock_extract(
     ensures { ExtractStored (given degree depth modulus bound rows) commitment.now key.now rounds.now challenges.now
         leaves.now w.old result w.new }
 {
-    let s = Settings {
-        degree: degree,
-        depth: depth,
-        modulus: modulus,
-        bound: bound,
-        rows: rows,
-    };
-    let refusal = slices::refusal(s, commitment.len() == sizes::item_cells(s));
-    if refusal != 0 {
-        return refusal;
+    let s = given(degree, depth, modulus, bound, rows);
+    if let Err(refusal) = slices::refusal(s, commitment.len() == sizes::item_cells(s)) {
+        return refusal.number();
     }
     let c = slices::residues(s, commitment);
-    extraction::extract(s, c, key, rounds, challenges, leaves, w)
+    number(extraction::extract(
+        s, c, key, rounds, challenges, leaves, w,
+    ))
 }
 
 // A first look at a text's settings.
@@ -373,7 +358,7 @@ pub extern "C" fn wovenrock_extract(
 pub extern "C" fn wovenrock_look(text: &[u8], settings: &mut [u64]) -> u32
     ensures { Looked text.now settings.old result settings.new }
 {
-    text_calls::look(text, settings)
+    number(text_calls::look(text, settings))
 }
 
 // The table reader.
@@ -394,9 +379,9 @@ pub extern "C" fn wovenrock_read(
         (tables_of key.old message.old commitment.old rounds.old challenges.old last.old claims.old) result
         settings.new (tables_of key.new message.new commitment.new rounds.new challenges.new last.new claims.new) }
 {
-    text_calls::read(
+    number(text_calls::read(
         parts, text, settings, key, message, commitment, rounds, challenges, last, claims,
-    )
+    ))
 }
 
 // The table writer.
@@ -422,16 +407,11 @@ pub extern "C" fn wovenrock_write(
         (tables_of key.now message.now commitment.now rounds.now challenges.now last.now claims.now)
         out.old result out.new count.new }
 {
-    let s = Settings {
-        degree: degree,
-        depth: depth,
-        modulus: modulus,
-        bound: bound,
-        rows: rows,
-    };
-    text_calls::write(
-        s, parts, key, message, commitment, rounds, challenges, last, claims, out, count,
-    )
+    let s = given(degree, depth, modulus, bound, rows);
+    let written = text_calls::write(
+        s, parts, key, message, commitment, rounds, challenges, last, claims, out,
+    );
+    counted(written, count)
 }
 
 // The program `verify` as a call on text.
@@ -439,7 +419,7 @@ pub extern "C" fn wovenrock_write(
 pub extern "C" fn wovenrock_verify(text: &[u8], verdict: &mut u32) -> u32
     ensures { Verdicts (checked (verify_answer text.now)) result verdict.new }
 {
-    text_calls::verify(text, verdict)
+    told(text_calls::verify(text), verdict)
 }
 
 // The program `prove` as a call on text.
@@ -447,5 +427,5 @@ pub extern "C" fn wovenrock_verify(text: &[u8], verdict: &mut u32) -> u32
 pub extern "C" fn wovenrock_prove(text: &[u8], out: &mut [u8], count: &mut usize) -> u32
     ensures { ProvedStored text.now out.old result out.new count.new }
 {
-    text_calls::prove(text, out, count)
+    counted(text_calls::prove(text, out), count)
 }

@@ -22,7 +22,7 @@ fn share_of(z: u16) -> u16
     requires { z < 12289 }
     ensures { result ≡ z * 65536 / 12289 }
 {
-    ((z as u32) * 65536 / 12289) as u16
+    (u32::from(z) * 65536 / 12289) as u16
 }
 
 // A number below 2·12289 that stands for z·x.
@@ -30,8 +30,10 @@ fn times(z: u16, share: u16, x: u16) -> u16
     requires { (z < 12289) × (share ≡ z * 65536 / 12289) }
     ensures { (result < 24578) × (result % 12289 ≡ x * z % 12289) }
 {
-    let part = ((x as u32) * (share as u32) >> 16) as u16;
-    ((x as u32) * (z as u32) - (part as u32) * 12289) as u16
+    let number = u32::from(x);
+    let factor = u32::from(z);
+    let part = (number * u32::from(share) >> 16) as u16;
+    (number * factor - u32::from(part) * 12289) as u16
 }
 
 // The same residue, below 2·12289 where x is below 4·12289.
@@ -41,7 +43,7 @@ fn lowered(x: u16) -> u16
     if x >= 24578 { x - 24578 } else { x }
 }
 
-// One level down: the upper half of a block, times z, is added to its lower half and taken from it.
+// One level down: the upper half of a block, times z, is added to its lower half and taken from it. Each turn writes two places of one slice, so the loop counts.
 fn split(z: u16, h: usize, s: &mut [u16])
     requires { (z < 12289) × (h + h ≤ length s.old) }
     ensures { Split z h s.old s.new }
@@ -50,8 +52,8 @@ fn split(z: u16, h: usize, s: &mut [u16])
     for i in 0..h {
         let x = lowered(s[i]);
         let y = times(z, share, s[h + i]);
-        s[i] = std::num::wrapping_add_u16(x, y);
-        s[h + i] = std::num::wrapping_add_u16(x, 24578 - y);
+        s[i] = x.wrapping_add(y);
+        s[h + i] = x.wrapping_add(24578 - y);
     }
 }
 
@@ -70,7 +72,7 @@ fn down(level: u32, e: usize, s: &mut [u16], table: &[u16; 256])
     down(level - 1, half + 128, &mut s[h..], table);
 }
 
-// One level up: the sum of two blocks, and z times their difference.
+// One level up: the sum of two blocks, and z times their difference. The loop counts as the one down does.
 fn join(z: u16, h: usize, s: &mut [u16])
     requires { (z < 12289) × (h + h ≤ length s.old) }
     ensures { Joined z h s.old s.new }
@@ -79,12 +81,8 @@ fn join(z: u16, h: usize, s: &mut [u16])
     for i in 0..h {
         let x = s[i];
         let y = s[h + i];
-        s[i] = lowered(std::num::wrapping_add_u16(x, y));
-        s[h + i] = times(
-            z,
-            share,
-            std::num::wrapping_sub_u16(std::num::wrapping_add_u16(y, 24578), x),
-        );
+        s[i] = lowered(x.wrapping_add(y));
+        s[h + i] = times(z, share, y.wrapping_add(24578).wrapping_sub(x));
     }
 }
 

@@ -1,3 +1,2 @@
-pub mod Quarters
 pub mod Shares
 pub mod Halving

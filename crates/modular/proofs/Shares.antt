@@ -80,17 +80,23 @@ module _ (q y x s e : ℕ) (p : 0 < q) (fits : x < 2 ^ 64) (es : s ≡ y * 2 ^ 6
 words : (N E b r : ℕ) → E ≤ N → N < E + b → b ≤ 2 ^ 64 → r < 2 ^ 64 → (r + E % 2 ^ 64) % 2 ^ 64 ≡ N % 2 ^ 64 → N ≡ r + E
 words N E b r low high few fits w = omega arith
 
--- what is left when the estimate's multiple of q is taken away, and less q where that still goes
-module _ (q y x s e r : ℕ) (p : 0 < q) (most : q ≤ 2 ^ 61) (fits : x < 2 ^ 64) (es : s ≡ y * 2 ^ 64 / q) (ee : e ≡ x * s / 2 ^ 64)
-    (r-fits : r < 2 ^ 64) (er : (r + e * q % 2 ^ 64) % 2 ^ 64 ≡ x * y % 2 ^ 64) where
-  left : x * y ≡ r + e * q
-  left = words (x * y) (e * q) (2 * q) r (estimate_low q y x s e p fits es ee) (estimate_high q y x s e p fits es ee) (omega arith) r-fits er
+-- what is left when the estimate's multiple of q is taken away, and less q where that still goes; the factor's residue is y
+module _ (q y x s e m z : ℕ) (p : 0 < q) (most : q ≤ 2 ^ 61) (fits : x < 2 ^ 64) (es : s ≡ y * 2 ^ 64 / q) (ee : e ≡ x * s / 2 ^ 64) (em : m ≡ q) (ez : z ≡ y) where
+  abbrev rest : ℕ
+  rest = (x * z % 2 ^ 64 + (2 ^ 64 - e * m % 2 ^ 64)) % 2 ^ 64
+
+  left : x * y ≡ rest + e * q
+  left = words (x * y) (e * q) (2 * q) rest (estimate_low q y x s e p fits es ee) (estimate_high q y x s e p fits es ee) (omega arith) (Nat.mod-lt _ (omega arith))
+      (ap (λ n. (rest + n) % 2 ^ 64) (ap (λ n. e * n % 2 ^ 64) (sym em)) ∙ back (x * z) (e * m) ∙ ap (λ n. x * n % 2 ^ 64) ez)
+    where
+      back : (a b : ℕ) → ((a % 2 ^ 64 + (2 ^ 64 - b % 2 ^ 64)) % 2 ^ 64 + b % 2 ^ 64) % 2 ^ 64 ≡ a % 2 ^ 64
+      back a b = omega arith
 
   rest-is : (k n : ℕ) → x * y ≡ n + k * q → n < q → n ≡ x * y % q
   rest-is k n is l = sym (ap (λ m. m % q) is ∙ Nat.add-mul-mod_self_right n k q ∙ Nat.mod-eq_of_lt l)
 
-  pub rest_below : r < q → r ≡ x * y % q
-  rest_below = rest-is e r left
+  pub rest_below : rest < m → rest ≡ x * y % q
+  rest_below h = rest-is e rest left (omega (arith, em, h))
 
-  pub rest_above : q ≤ r → r - q ≡ x * y % q
-  rest_above h = rest-is (e + 1) (r - q) (omega (arith, left, Nat.add-mul e 1 q)) (omega (arith, left, estimate_high q y x s e p fits es ee))
+  pub rest_above : m ≤ rest → rest - m ≡ x * y % q
+  rest_above h = ap (λ n. rest - n) em ∙ rest-is (e + 1) (rest - q) (omega (arith, left, em, h, Nat.add-mul e 1 q)) (omega (arith, left, em, h, estimate_high q y x s e p fits es ee))

@@ -4,8 +4,6 @@ ghost use Rattle.std.specs.Prelude.{◌≡◌, ℕ, ◌*◌, ◌/◌, ◌%◌, �
 ghost use Rattle.protocol.specs.Basic.{Provided};
 ghost use Rattle.modular.specs.Factors.{Modulus, Prepared};
 
-use crate::words;
-
 // A factor modulo q: its residue, and what share of q that is, in parts of 2^64.
 #[derive(Clone, Copy)]
 pub struct Factor {
@@ -47,18 +45,24 @@ pub fn prepare(q: u64, y: u64) -> Factor
     let residue = y % q;
     Factor {
         modulus: q,
-        residue: residue,
+        residue,
         share: share(q, residue),
     }
+}
+
+// x·y/2^64, rounded down: the upper word of the product.
+fn upper(x: u64, y: u64) -> u64
+    ensures { result ≡ x * y / 2 ^ 64 }
+{
+    (u128::from(x) * u128::from(y) >> 64) as u64
 }
 
 // x·y modulo q, y being the prepared factor and x any number: the estimate of the quotient is at most 1 too small.
 pub fn multiply(factor: Factor, x: u64) -> u64
     ensures { (q y : ℕ) → Provided (Prepared q y factor) (result ≡ x * y % q) }
 {
-    let estimate = words::upper(x, factor.share);
-    let taken = words::lower(estimate, factor.modulus);
-    let rest = std::num::wrapping_sub_u64(words::lower(x, factor.residue), taken);
+    let taken = upper(x, factor.share).wrapping_mul(factor.modulus);
+    let rest = x.wrapping_mul(factor.residue).wrapping_sub(taken);
     if rest < factor.modulus {
         return rest;
     }

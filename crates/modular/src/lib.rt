@@ -4,4 +4,3 @@
 
 pub mod factors;
 pub mod halves;
-mod words;

@@ -1,2 +1,3 @@
 pub mod OneProduct
 pub mod Ends
+pub mod Asked

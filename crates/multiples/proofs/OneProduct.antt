@@ -1,5 +1,5 @@
 -- Sums of one product: those of an inner product of one element, and those of one strand.
-use Rattle.std.proofs.Common.{◌≡◌, ℕ, ◌+◌, ◌-◌, ◌*◌, ◌^◌, ◌≤◌, List, length, get_or, ℤ, pos, ◌+ℤ◌, ◌∙◌, subst, arith}
+use Rattle.std.proofs.Common.{◌≡◌, ℕ, ◌+◌, ◌*◌, ◌^◌, ◌≤◌, List, length, get_or, ℤ, pos, ◌+ℤ◌, ◌∙◌, subst, arith}
 use native.Mathlib.Nat as Nat
 use lib.IntN.{+ℤ_idl}
 use Rattle.protocol.specs.Basic.{sum}

@@ -14,6 +14,10 @@ use joins::Joint;
 use product_sums::{FEW, Sum};
 use protocol::{Residue, WIDTH};
 
+const THRICE_FEW: usize = 3 * FEW;
+
+const THRICE_WIDTH: usize = 3 * WIDTH;
+
 // Do two sums stand for c·a modulo q, a being a residue: q divides that and c·(q − a).
 fn sum_is(joint: Joint, s: Sum, t: Sum, c: u32, a: Residue) -> bool
     ensures { (q : ℕ) (z : ℤ) → Provided (joined.Ready q joint × joined.Halves q z (2 ^ 61) s t × (c ≤ 2 ^ 13)) (result ≡ multiple_is q c z a) }
@@ -22,13 +26,9 @@ fn sum_is(joint: Joint, s: Sum, t: Sum, c: u32, a: Residue) -> bool
         return false;
     }
     let rest = joint.modulus - a;
-    let lower = (c as u64) * joins::lower_half(rest);
-    let upper = (c as u64) * joins::upper_half(rest);
-    joins::join(
-        joint,
-        std::num::wrapping_add_u64(s, lower),
-        std::num::wrapping_add_u64(t, upper),
-    ) == 0
+    let lower = u64::from(c) * joins::lower_half(rest);
+    let upper = u64::from(c) * joins::upper_half(rest);
+    joins::join(joint, s.wrapping_add(lower), t.wrapping_add(upper)) == 0
 }
 
 // Do the sums of an element stand for c·a.
@@ -38,12 +38,7 @@ fn sums_are(q: Residue, d: usize, s: &[Sum], t: &[Sum], c: u32, a: &[Residue]) -
         (result ≡ every d (λ k. multiple_is q c (F k) (slice_index a.now k))) }
 {
     let joint = joins::prepare(q);
-    for k in 0..d {
-        if !sum_is(joint, s[k], t[k], c, a[k]) {
-            return false;
-        }
-    }
-    true
+    (0..d).all(|k| sum_is(joint, s[k], t[k], c, a[k]))
 }
 
 // Adds the product of f and g; x is room for g.
@@ -68,24 +63,24 @@ fn add_product(
     product_sums::add_prepared(q, 1, d, f, x, s, t);
 }
 
-// With sums that are 0: is the product of the elements f and g c times the element a, modulo q.
-fn product_in(
+// Is the product of the elements f and g c times the element a, modulo q, with room for N numbers of an element, and for the X that are prepared of them.
+fn product_in<const N: usize, const X: usize>(
     q: Residue,
     d: u32,
     f: &[i32],
     g: &[Residue],
     c: u32,
     a: &[Residue],
-    x: &mut [u64],
-    s: &mut [Sum],
-    t: &mut [Sum],
 ) -> bool
-    requires { (d ≤ width) × (d ≤ length f.now) × (d ≤ length g.now) × (d ≤ length s.old) × (d ≤ length t.old) × (d ≤ length a.now) }
-    ensures { Provided (Summable q d 1 f.now g.now × (3 * d ≤ length x.old) × (c ≤ 2 ^ 13) × Zero s.old × Zero t.old)
+    requires { (d ≤ N) × (3 * d ≤ X) × (N ≤ width) × (X ≤ 3 * width) × (d ≤ length f.now) × (d ≤ length g.now) × (d ≤ length a.now) }
+    ensures { Provided (Summable q d 1 f.now g.now × (c ≤ 2 ^ 13))
         (result ≡ every d (λ k. multiple_is q c (product d (signed f.now) (residue g.now) k) (slice_index a.now k))) }
 {
-    add_product(q, d, f, g, x, s, t);
-    sums_are(q, d as usize, s, t, c, a)
+    let mut x = [0u64; X];
+    let mut s = [0u64; N];
+    let mut t = [0u64; N];
+    add_product(q, d, f, g, &mut x, &mut s, &mut t);
+    sums_are(q, d as usize, &s, &t, c, a)
 }
 
 // The same for every input. A small degree takes smaller sums, since all of them are set to 0 first.
@@ -93,33 +88,15 @@ pub fn product_is(q: Residue, d: u32, f: &[i32], g: &[Residue], c: u32, a: &[Res
     ensures { Provided (Summable q d 1 f.now g.now × (d ≤ length a.now) × (c ≤ 2 ^ 13))
         (result ≡ every d (λ k. multiple_is q c (product d (signed f.now) (residue g.now) k) (slice_index a.now k))) }
 {
-    if q == 0 {
-        return false;
-    }
-    if d == 0 {
-        return false;
-    }
-    if (d as usize) > WIDTH {
-        return false;
-    }
     let n = d as usize;
-    if f.len() < n {
+    if (q == 0) | (n == 0) | (n > WIDTH) {
         return false;
     }
-    if g.len() < n {
-        return false;
-    }
-    if a.len() < n {
+    if (f.len() < n) | (g.len() < n) | (a.len() < n) {
         return false;
     }
     if n <= FEW {
-        let mut x = [0u64; 3 * FEW];
-        let mut s = [0u64; FEW];
-        let mut t = [0u64; FEW];
-        return product_in(q, d, f, g, c, a, &mut x, &mut s, &mut t);
+        return product_in::<FEW, THRICE_FEW>(q, d, f, g, c, a);
     }
-    let mut x = [0u64; 3 * WIDTH];
-    let mut s = [0u64; WIDTH];
-    let mut t = [0u64; WIDTH];
-    product_in(q, d, f, g, c, a, &mut x, &mut s, &mut t)
+    product_in::<WIDTH, THRICE_WIDTH>(q, d, f, g, c, a)
 }

@@ -25,6 +25,7 @@ const POWERS: [u16; 256] = [
 ];
 
 // The table, to be read once and handed on by reference.
+#[tactic(auto, unfolding(crate::specs::Powers::powers))]
 pub fn table() -> [u16; 256]
     ensures { result ≡ powers }
 {

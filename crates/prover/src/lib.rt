@@ -3,7 +3,9 @@
 
 ghost use Rattle.std.specs.Prelude.{◌≡◌, ◌≤◌, length};
 ghost use Rattle.protocol.specs.Basic.{Provided};
+ghost use Rattle.protocol.specs.Answers.{as_committed, as_polynomial, as_ended};
 ghost use Rattle.protocol.specs.Layout.{item_cells};
+ghost use Rattle.protocol.specs.Refusal.{refusal_of};
 ghost use Rattle.protocol.specs.Settings.{settings_refusal};
 ghost use Rattle.protocol.specs.Rows.{fold_keys};
 ghost use Rattle.protocol.specs.Calls.{commit_answer, round_answer, fold_refusal, end_answer};
@@ -11,11 +13,11 @@ ghost use Rattle.protocol.specs.Promises.{Folded};
 ghost use Rattle.slices.specs.Slices.{values_of};
 ghost use Rattle.prover.specs.Rowwise.{CommitTo, KeysGiven};
 
-use protocol::{Committed, Ended, Polynomial, ROWS_WIDTH, Residue, Settings, WIDTH};
+use protocol::{Item, Polynomial, ROWS_WIDTH, Refusal, Residue, Settings, WIDTH};
 use residues::elements;
 
 // An item, with which a table begins, as it is passed by value.
-pub fn by_value(settings: Settings, item: &[Residue]) -> [Residue; ROWS_WIDTH]
+pub fn by_value(settings: Settings, item: &[Residue]) -> Item
     ensures { Provided (settings_refusal settings ≡ 0) (Provided (item_cells settings ≤ length item.now) (result ≡ values_of settings item.now)) }
 {
     let n = sizes::item_cells(settings);
@@ -26,13 +28,15 @@ pub fn by_value(settings: Settings, item: &[Residue]) -> [Residue; ROWS_WIDTH]
 }
 
 // The commitment to a message, written to the front of a table; a refused call leaves it as it is.
-pub fn commit_to(settings: Settings, key: &[Residue], message: &[i32], out: &mut [Residue]) -> u32
-    ensures { CommitTo settings key.now message.now out.old result out.new }
+pub fn commit_to(
+    settings: Settings,
+    key: &[Residue],
+    message: &[i32],
+    out: &mut [Residue],
+) -> Result<(), Refusal>
+    ensures { CommitTo settings key.now message.now out.old (refusal_of result) out.new }
 {
-    let refusal = prover_refusals::prover::commit(settings, key, message);
-    if refusal != 0 {
-        return refusal;
-    }
+    prover_refusals::prover::commit(settings, key, message)?;
     products::inner_rows(
         false,
         settings.modulus,
@@ -44,58 +48,36 @@ pub fn commit_to(settings: Settings, key: &[Residue], message: &[i32], out: &mut
         key,
         out,
     );
-    0
+    Ok(())
 }
 
 // The same by value.
-pub fn commit(settings: Settings, key: &[Residue], message: &[i32]) -> Committed
-    ensures { result ≡ commit_answer settings key.now message.now }
+pub fn commit(settings: Settings, key: &[Residue], message: &[i32]) -> Result<Item, Refusal>
+    ensures { as_committed result ≡ commit_answer settings key.now message.now }
 {
-    let mut item: [Residue; ROWS_WIDTH] = [0; ROWS_WIDTH];
-    let refusal = commit_to(settings, key, message, &mut item);
-    if refusal != 0 {
-        return Committed {
-            refusal,
-            commitment: [0; ROWS_WIDTH],
-        };
-    }
-    Committed {
-        refusal: 0,
-        commitment: by_value(settings, &item),
-    }
-}
-
-// The answer of a prover's round, put together and taken apart: whoever holds one calls these, since a field that is an array of arrays
-// is read and written by hand.
-fn polynomial_of(refusal: u32, elements: [[Residue; ROWS_WIDTH]; 3]) -> Polynomial
-    ensures { (result.refusal ≡ refusal) × (result.elements ≡ elements) }
-{
-    Polynomial { refusal, elements }
-}
-
-pub fn elements_of(answer: Polynomial) -> [[Residue; ROWS_WIDTH]; 3]
-    ensures { result ≡ answer.elements }
-{
-    answer.elements
+    let mut item: Item = [0; ROWS_WIDTH];
+    commit_to(settings, key, message, &mut item)?;
+    Ok(by_value(settings, &item))
 }
 
 // The prover's round: the round polynomial of round t + 1.
-pub fn round(settings: Settings, done: u32, key: &[Residue], message: &[i32]) -> Polynomial
-    ensures { result ≡ round_answer settings done key.now message.now }
+pub fn round(
+    settings: Settings,
+    done: u32,
+    key: &[Residue],
+    message: &[i32],
+) -> Result<Polynomial, Refusal>
+    ensures { as_polynomial result ≡ round_answer settings done key.now message.now }
 {
-    let refusal = prover_refusals::prover::round(settings, done, key, message);
-    if refusal != 0 {
-        let none: [Residue; ROWS_WIDTH] = [0; ROWS_WIDTH];
-        return polynomial_of(refusal, [none, none, none]);
-    }
-    let mut c0: [Residue; ROWS_WIDTH] = [0; ROWS_WIDTH];
-    let mut c1: [Residue; ROWS_WIDTH] = [0; ROWS_WIDTH];
-    let mut c2: [Residue; ROWS_WIDTH] = [0; ROWS_WIDTH];
+    prover_refusals::prover::round(settings, done, key, message)?;
+    let mut c0: Item = [0; ROWS_WIDTH];
+    let mut c1: Item = [0; ROWS_WIDTH];
+    let mut c2: Item = [0; ROWS_WIDTH];
     round_products::polynomial(settings, done, message, key, &mut c0, &mut c1, &mut c2);
     let first = by_value(settings, &c0);
     let middle = by_value(settings, &c1);
     let last = by_value(settings, &c2);
-    polynomial_of(0, [first, middle, last])
+    Ok([first, middle, last])
 }
 
 // The fold of every row of a key by X^e, each in its own places.
@@ -129,31 +111,24 @@ pub fn fold_tables(settings: Settings, done: u32, e: u32, key: &mut [Residue], m
 }
 
 // The same as a call. Nothing is written before the last test.
-pub fn fold(settings: Settings, done: u32, e: u32, key: &mut [Residue], message: &mut [i32]) -> u32
-    ensures { Folded settings done e key.old message.old result key.new message.new }
+pub fn fold(
+    settings: Settings,
+    done: u32,
+    e: u32,
+    key: &mut [Residue],
+    message: &mut [i32],
+) -> Result<(), Refusal>
+    ensures { Folded settings done e key.old message.old (refusal_of result) key.new message.new }
 {
-    let refusal = prover_refusals::prover::fold(settings, done, e, key, message);
-    if refusal != 0 {
-        return refusal;
-    }
+    prover_refusals::prover::fold(settings, done, e, key, message)?;
     fold_tables(settings, done, e, key, message);
-    0
+    Ok(())
 }
 
 // The prover's end: the final element, with the rounds done at L.
-pub fn end(settings: Settings, done: u32, message: &[i32]) -> Ended
-    ensures { result ≡ end_answer settings done message.now }
+pub fn end(settings: Settings, done: u32, message: &[i32]) -> Result<[i32; WIDTH], Refusal>
+    ensures { as_ended result ≡ end_answer settings done message.now }
 {
-    let refusal = prover_refusals::prover::end(settings, done, message);
-    if refusal != 0 {
-        return Ended {
-            refusal,
-            last: [0i32; WIDTH],
-        };
-    }
-    let last = elements::signed_element_at(settings.degree, message, 0);
-    Ended {
-        refusal: 0,
-        last: last,
-    }
+    prover_refusals::prover::end(settings, done, message)?;
+    Ok(elements::signed_element_at(settings.degree, message, 0))
 }

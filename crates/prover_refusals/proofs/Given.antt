@@ -1,5 +1,6 @@
 -- What is known of the inputs of a prover's call that nothing refuses: of the message, and of every row of the key.
 --
+--   number_least                               a refusal's number is not 0
 --   first_row                                  there is a row
 --   commit_key, round_key, fold_key_holds      the settings are allowed, and the key has all its rows
 --   commit_given, round_given, fold_given      what each call's work in a row asks for
@@ -14,7 +15,11 @@ use lib.IntN.{ℤ, pos, nat_abs}
 use lib.ListN.{length, get_or, take}
 use lib.Seq.{get_or-take, length-take-le}
 use Rattle.protocol.specs.declared.Settings.{Settings}
-use Rattle.protocol.specs.Basic.{Tested, within}
+use Rattle.protocol.specs.declared.Refusal.{Refusal}
+use Rattle.protocol.specs.declared.Refusal.TheVariants.{Long, Text, Degree, Depth, Modulus, Bound, Size, Residue, Tall, Challenge, Turn, Twin, Branch, Growth, Slack}
+use Rattle.protocol.specs.declared.Refusal.TheVariants as Code
+use Rattle.protocol.specs.Refusal.{number}
+use Rattle.protocol.specs.Basic.{within}
 use Rattle.protocol.specs.Settings.{settings_refusal, cells, has_length, all_below, all_within, exponent}
 use Rattle.protocol.specs.Layout.{key_cells, left_cells}
 use Rattle.protocol.specs.Rows.{key_row}
@@ -22,20 +27,33 @@ use Rattle.protocol.specs.Calls.{left_small, commit_refusal, round_refusal, fold
 use Rattle.protocol.specs.Inputs.{Valid}
 use Rattle.protocol.proofs.Tests.{and_split, all_at}
 use Rattle.protocol.proofs.Inputs.{settings-valid, tested-below, tested_within}
-use Rattle.protocol.proofs.Refusals.{tested-before, tested-passed, none-refused, moving_tested}
+use Rattle.protocol.proofs.Refusals.{none-refused, moving_tested}
 use Rattle.protocol.proofs.OpeningLaws.{left_inside}
 use Rattle.protocol.proofs.Rows.{key_row-below}
 pub use Rattle.prover_refusals.specs.Given.{TablesGiven, SmallLeft, CommitGiven, RoundGiven, FoldGiven}
+
+pub number_least : (r : Refusal) → 1 ≤ number r
+number_least Long = omega arith
+number_least Text = omega arith
+number_least Degree = omega arith
+number_least Depth = omega arith
+number_least Modulus = omega arith
+number_least Bound = omega arith
+number_least Size = omega arith
+number_least Residue = omega arith
+number_least Tall = omega arith
+number_least Challenge = omega arith
+number_least Turn = omega arith
+number_least Twin = omega arith
+number_least Branch = omega arith
+number_least Growth = omega arith
+number_least Slack = omega arith
+number_least Code.Rows = omega arith
 
 pub first_row : (S : Settings) → settings_refusal S ≡ 0 → 0 < S.rows
 first_row S z = omega (arith, (settings-valid S z).rows_least)
 
 module _ (S : Settings) (key : List ℕ) (message : List ℤ) where
-  -- 3 to 7, and 16, refuse nothing
-  pub lengths_given : {r : ℕ} → Tested (settings_refusal S) 7 (has_length (key_cells S) key && has_length (cells S) message) r → r ≡ 0 → (settings_refusal S ≡ 0) × (length message ≡ cells S)
-  unfolding has_length
-  lengths_given e z = (tested-before e z, eqb-true _ _ (and_split {a = has_length (key_cells S) key} (tested-passed e z)).1)
-
   abbrev Whole : Type 0
   Whole = (settings_refusal S ≡ 0) × (length key ≡ key_cells S)
 

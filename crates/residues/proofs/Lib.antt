@@ -7,3 +7,4 @@ pub mod Turns
 pub mod Parts
 pub mod Padding
 pub mod Signs
+pub mod Adding

@@ -1,8 +1,8 @@
 -- Residues of a part of a row, of a copy, of the parts of a table as the code lends them, and of a row behind what is written.
-use Rattle.std.proofs.Common.{◌≡◌, ℕ, ◌+◌, ◌-◌, ◌<◌, ◌≤◌, List, ◌++◌, length, get_or, take, drop, replicate, ℤ, pos, sym, refl, ap, ◌∙◌, arith, length-drop, get_or-drop, take_all}
+use Rattle.std.proofs.Common.{◌≡◌, ℕ, ◌+◌, ◌-◌, ◌<◌, ◌≤◌, List, ◌++◌, length, get_or, take, drop, replicate, sym, refl, ap, ◌∙◌, arith, length-drop, get_or-drop, take_all}
 use lib.ListN.{length-replicate, get_or-eq_default}
 use Rattle.protocol.specs.Basic.{tabulate}
-use Rattle.protocol.specs.Element.{width, zeros, signed_zeros, padded, padded_signed}
+use Rattle.protocol.specs.Element.{width}
 use Rattle.protocol.proofs.Reading.{tabulate_own}
 use Rattle.residues.specs.Lists.{filled, spliced}
 use Rattle.residues.specs.Residues.{Residues}
@@ -42,16 +42,10 @@ module _ {ℓ} {A : Type ℓ} (z : A) (d m at : ℕ) (t : List A) (less : m ≤ 
       ∙ filled-further (λ k. get_or t (at + k) z) m d (replicate width z) z less (omega (arith, length-replicate width z))
       (λ k l h. get_or-eq_default t z (omega (arith, all (omega arith))) ∙ sym (replicate_at z width k))
 
-module _ (d m at : ℕ) (less : m ≤ d) (most : d ≤ width) where
-  pub residue-part : (t : List ℕ) → (m < d → length t ≤ at + m)
-      → spliced (λ k. get_or (take (length t - at) (drop at t)) k 0) 0 m (replicate width 0) ≡ padded d (tabulate d (λ k. get_or t (at + k) 0))
-  unfolding spliced filled padded zeros
-  residue-part t all = part_filled 0 d m at t less most all ∙ filled-replicate 0 _ width d
-
-  pub signed_part : (t : List ℤ) → (m < d → length t ≤ at + m)
-      → filled (λ k. get_or (take (length t - at) (drop at t)) k (pos 0)) m (replicate width (pos 0)) ≡ padded_signed d (tabulate d (λ k. get_or t (at + k) (pos 0)))
-  unfolding padded_signed signed_zeros
-  signed_part t all = part_filled (pos 0) d m at t less most all ∙ filled-replicate (pos 0) _ width d
+  -- the part, written to the front of the place for an element
+  pub part : {w : A} → w ≡ z → spliced (λ k. get_or (take (length t - at) (drop at t)) k z) 0 m (replicate width w) ≡ tabulate d (λ k. get_or t (at + k) z) ++ replicate (width - d) z
+  unfolding spliced filled
+  part e = ap (λ w. spliced (λ k. get_or (take (length t - at) (drop at t)) k z) 0 m (replicate width w)) e ∙ part_filled ∙ filled-replicate z _ width d
 
 module _ (f : ℕ → ℕ) (to m : ℕ) (t t₁ : List ℕ) (room : to + m ≤ length t) (e : t₁ ≡ spliced f to m t) where
   pub as_was : (p : ℕ) → to + m ≤ p → get_or t₁ p 0 ≡ get_or t p 0

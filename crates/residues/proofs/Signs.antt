@@ -4,6 +4,10 @@ use native.Mathlib.Nat as Nat
 use Rattle.protocol.specs.Element.{modulo}
 use Rattle.protocol.proofs.Modulo.{modulo_add, modulo-lt, modulo_neg, modulo_residue}
 
+-- by a number between
+pub by : (y : ℕ) {x z : ℕ} → x ≡ y → y ≡ z → x ≡ z
+by y e h = e ∙ h
+
 module _ (q : ℕ) (p : 0 < q) where
   pub negative-none : 0 ≡ modulo q (neg_ℤ (pos 0))
   unfolding modulo

@@ -6,7 +6,7 @@ use lib.ListN.{get_or-append}
 use lib.Seq.{take-append-le, drop-append-le}
 use Rattle.protocol.specs.Basic.{tabulate}
 use Rattle.protocol.specs.Element.{width, zeros, padded}
-use Rattle.protocol.proofs.Reading.{tabulate_length, tabulate_ext, tabulate_add}
+use Rattle.protocol.proofs.Reading.{tabulate_length, tabulate_at, tabulate_ext, tabulate_add}
 use Rattle.residues.specs.Lists.{spliced}
 use Rattle.residues.proofs.Fill.{filled, filled_more, filled_at, filled-behind, filled-length, filled-again, element-done}
 
@@ -130,6 +130,19 @@ module _ {ℓ} {A : Type ℓ} where
           | no past ↦ behind j (omega arith) ∙ sym (entry-behind f at n l (omega arith) z j (omega arith))
         ]
       ])
+
+  -- a part that is copied: the first n entries of a row
+  pub copied : (z : A) (n at : ℕ) (row l : List A) {s : List A} {m : ℕ} → n ≤ length row → s ≡ take n row → m ≡ n
+      → take at l ++ (s ++ drop m (drop at l)) ≡ spliced (λ k. get_or row k z) at n l
+  unfolding spliced
+  copied z n at row l there e h = (λ i. take at l ++ (e i ++ drop (h i) (drop at l))) ∙ ap (λ t. take at l ++ (t ++ drop n (drop at l))) front
+    where
+      long : length (take n row) ≡ n
+      long = length-take-le n row there
+
+      front : take n row ≡ tabulate n (λ k. get_or row k z)
+      front = ext_get_or z (take n row) _ (long ∙ sym (tabulate_length n _))
+          (λ k h. get_or-take n row k z (omega (arith, long)) ∙ sym (tabulate_at n _ z k (omega (arith, long))))
 
 -- ---- of numbers: 0 is read behind the end
 

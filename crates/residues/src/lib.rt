@@ -3,10 +3,12 @@
 #![tactic(auto)]
 
 pub mod elements;
+pub mod sums;
 
-ghost use Rattle.std.specs.Prelude.{◌≡◌, ◌+◌, ◌*◌, ◌%◌, ◌<◌, ◌≤◌, ◌++◌, length, drop, pos, ◌+ℤ◌, neg_ℤ, slice_index};
-ghost use Rattle.protocol.specs.Basic.{Provided};
-ghost use Rattle.protocol.specs.Element.{width, modulo};
+ghost use Rattle.std.specs.Prelude.{◌≡◌, ℕ, ◌+◌, ◌-◌, ◌*◌, ◌%◌, ◌<◌, ◌≤◌, List, ◌++◌, length, drop, replicate, pos, ◌+ℤ◌, neg_ℤ, get_or};
+ghost use Rattle.protocol.specs.Basic.{Provided, tabulate};
+ghost use Rattle.protocol.specs.Element.{width, modulo, coefficients, padded_signed, signed_at};
+ghost use Rattle.residues.specs.Elements.{element_at, residues_element, signed_element};
 ghost use Rattle.residues.specs.Lists.{spliced};
 ghost use Rattle.residues.specs.Places.{SecondRow};
 ghost use Rattle.residues.specs.Residues.{BothBelow, Copyable, signed};
@@ -24,9 +26,9 @@ pub const ROWS_FROM: usize = 16;
 fn plus_any(q: Residue, x: Residue, y: Residue) -> Residue
     ensures { Provided (BothBelow q x y) (result ≡ (x + y) % q) }
 {
-    let z = std::num::wrapping_sub_u64(q, y);
+    let z = q.wrapping_sub(y);
     if x < z {
-        return std::num::wrapping_add_u64(x, y);
+        return x.wrapping_add(y);
     }
     x - z
 }
@@ -38,11 +40,11 @@ pub fn plus(q: Residue, x: Residue, y: Residue) -> Residue
     if q > SIGN {
         return plus_any(q, x, y);
     }
-    let rest = std::num::wrapping_sub_u64(std::num::wrapping_add_u64(x, y), q);
+    let rest = x.wrapping_add(y).wrapping_sub(q);
     if rest < SIGN {
         return rest;
     }
-    std::num::wrapping_add_u64(rest, q)
+    rest.wrapping_add(q)
 }
 
 // x − y modulo q, of residues, for every q.
@@ -50,7 +52,7 @@ fn minus_any(q: Residue, x: Residue, y: Residue) -> Residue
     ensures { Provided (BothBelow q x y) (result ≡ modulo q (pos x +ℤ neg_ℤ (pos y))) }
 {
     if x < y {
-        return std::num::wrapping_add_u64(x, std::num::wrapping_sub_u64(q, y));
+        return x.wrapping_add(q.wrapping_sub(y));
     }
     x - y
 }
@@ -62,11 +64,11 @@ pub fn minus(q: Residue, x: Residue, y: Residue) -> Residue
     if q > SIGN {
         return minus_any(q, x, y);
     }
-    let rest = std::num::wrapping_sub_u64(x, y);
+    let rest = x.wrapping_sub(y);
     if rest < SIGN {
         return rest;
     }
-    std::num::wrapping_add_u64(rest, q)
+    rest.wrapping_add(q)
 }
 
 // −y modulo q, of a residue.
@@ -76,7 +78,7 @@ pub fn negated(q: Residue, y: Residue) -> Residue
     if y == 0 {
         return 0;
     }
-    std::num::wrapping_sub_u64(q, y)
+    q.wrapping_sub(y)
 }
 
 // x + y modulo q, or x − y.
@@ -118,9 +120,40 @@ pub fn row_start(d: usize, e: usize) -> usize
     e - d
 }
 
-// The first n numbers of a row, written to a table from a place on. The table stays as it is where they do not stand in the row, or have no room.
-pub fn store(n: usize, row: &[Residue], at: usize, out: &mut [Residue])
-    ensures { Provided (Copyable n row.now at out.old) (out.new ≡ spliced (λ k. slice_index row.now k) at n out.old) }
+// A number of a table: what is read where the table has none, and what an element of a flat table is when it is passed by value.
+pub trait Entry: Copy {
+    ghost NONE: { Self };
+
+    const NONE: Self;
+
+    ghost element: { ℕ → List Self → ℕ → List Self };
+
+    ghost element_is: { (d : ℕ) (t : List Self) (i : ℕ) → element d t i ≡ tabulate d (λ k. get_or t (i * d + k) NONE) ++ replicate (width - d) NONE };
+}
+
+impl Entry for Residue {
+    ghost NONE = { 0 };
+
+    const NONE: Residue = 0;
+
+    ghost element = { element_at };
+
+    ghost element_is = { residues_element };
+}
+
+impl Entry for i32 {
+    ghost NONE = { pos 0 };
+
+    const NONE: i32 = 0;
+
+    ghost element = { λ d t i. padded_signed d (coefficients d (signed_at d t i)) };
+
+    ghost element_is = { signed_element };
+}
+
+// The first n entries of a row, written to a table from a place on. The table stays as it is where they do not stand in the row, or have no room.
+pub fn store<T: Entry>(n: usize, row: &[T], at: usize, out: &mut [T])
+    ensures { Provided (Copyable n row.now at out.old) (out.new ≡ spliced (λ k. get_or row.now k T.NONE) at n out.old) }
 {
     if row.len() < n {
         return;
@@ -131,9 +164,7 @@ pub fn store(n: usize, row: &[Residue], at: usize, out: &mut [Residue])
     if out.len() - n < at {
         return;
     }
-    for k in 0..n {
-        out[at + k] = row[k];
-    }
+    out[at..at + n].copy_from_slice(&row[..n]);
 }
 
 // A table copied to the front of one that is not shorter.

@@ -1,2 +1,3 @@
 pub mod Shift
 pub mod Limits
+pub mod Powers

@@ -25,6 +25,7 @@ pub const GROWTH_LIMIT: u64 = 4611686018427387904;
 const BEYOND: u64 = GROWTH_LIMIT + 1;
 
 // The elements that are left, n/2^t, and those of a half of them.
+#[tactic(auto, using(crate::proofs::Limits::allowed_depth, crate::proofs::Shift::left_is))]
 pub fn left(settings: Settings, t: u32) -> u32
     ensures { Provided (RoundsDone settings t) (result ≡ layout.left settings t) }
 {
@@ -37,6 +38,7 @@ pub fn left(settings: Settings, t: u32) -> u32
     1u32 << (settings.depth - t)
 }
 
+#[tactic(auto, unfolding(protocol::specs::Layout::left, protocol::specs::Layout::half_left))]
 pub fn half_left(settings: Settings, t: u32) -> u32
     ensures { Provided (RoundLeft settings t) (result ≡ half_left settings t) }
 {
@@ -47,32 +49,35 @@ pub fn half_left(settings: Settings, t: u32) -> u32
 }
 
 // The numbers of a row of a key, or of a message: n elements of d.
+#[tactic(auto, unfolding(protocol::specs::Layout::left, protocol::specs::Layout::cells, protocol::specs::Layout::size))]
 pub fn cells(settings: Settings) -> usize
     ensures { Provided (settings_refusal settings ≡ 0) (result ≡ layout.cells settings) }
 {
     left_cells(settings, 0)
 }
 
-// The rows to count with. Where there are more than can be, which are refused, there are none.
+// A number to count with: 0 where it is more than can be, which is refused.
+fn counted(x: u32, most: usize) -> usize
+    ensures { Provided (x ≤ most) (result ≡ x) × (result ≤ most) }
+{
+    let n = x as usize;
+    if n <= most { n } else { 0 }
+}
+
+// The rows.
+#[tactic(auto, using(crate::proofs::Limits::allowed_rows))]
 fn rows(settings: Settings) -> usize
     ensures { Provided (settings_refusal settings ≡ 0) (result ≡ settings.rows) × (result ≤ rows_most) }
 {
-    let rows = settings.rows as usize;
-    if rows > ROWS {
-        return 0;
-    }
-    rows
+    counted(settings.rows, ROWS)
 }
 
-// The places of an element; none where there are too many.
+// The places of an element.
+#[tactic(auto, using(crate::proofs::Limits::allowed_degree))]
 fn places(settings: Settings) -> usize
     ensures { Provided (settings_refusal settings ≡ 0) (result ≡ settings.degree) × (result ≤ width) }
 {
-    let d = settings.degree as usize;
-    if d > WIDTH {
-        return 0;
-    }
-    d
+    counted(settings.degree, WIDTH)
 }
 
 // The numbers of so many elements in each row.
@@ -83,6 +88,7 @@ fn all_rows(settings: Settings, items: u32) -> usize
 }
 
 // The numbers of a key: rows·n elements of d.
+#[tactic(auto, unfolding(protocol::specs::Layout::left))]
 pub fn key_cells(settings: Settings) -> usize
     ensures { Provided (settings_refusal settings ≡ 0) (result ≡ key_cells settings) }
 {
@@ -104,6 +110,7 @@ pub fn left_cells(settings: Settings, t: u32) -> usize
 }
 
 // The bound of what is left: 2^t·B.
+#[tactic(auto, using(crate::proofs::Limits::allowed_bound, crate::proofs::Limits::allowed_depth))]
 pub fn left_bound(settings: Settings, t: u32) -> u32
     ensures { Provided (RoundsDone settings t) (result ≡ 2 ^ t * settings.bound) }
 {
@@ -117,6 +124,7 @@ pub fn left_bound(settings: Settings, t: u32) -> u32
 }
 
 // The leaves of a full tree, 3^L, and its branching nodes.
+#[tactic(auto, using(crate::proofs::Limits::allowed_depth, crate::proofs::Powers::power_most), unfolding(protocol::specs::Layout::leaves))]
 pub fn leaves(settings: Settings) -> usize
     ensures { Provided (settings_refusal settings ≡ 0) (result ≡ layout.leaves settings) × (1 ≤ result) × (result ≤ leaves_most) }
 {
@@ -124,13 +132,10 @@ pub fn leaves(settings: Settings) -> usize
     if depth > DEPTH_MOST {
         return 1;
     }
-    let mut power: usize = 1;
-    for i in 0..depth {
-        power = 3 * power;
-    }
-    power
+    3usize.pow(depth)
 }
 
+#[tactic(auto, unfolding(protocol::specs::Layout::leaves, protocol::specs::Layout::nodes))]
 pub fn nodes(settings: Settings) -> usize
     ensures { Provided (settings_refusal settings ≡ 0) (result ≡ layout.nodes settings) × (result ≤ nodes_most) }
 {
@@ -138,6 +143,7 @@ pub fn nodes(settings: Settings) -> usize
 }
 
 // The exponents that a challenge may be: 2·d.
+#[tactic(auto, using(crate::proofs::Limits::allowed_degree))]
 pub fn exponent_count(settings: Settings) -> u32
     ensures { Provided (settings_refusal settings ≡ 0) (result ≡ exponent_count settings) }
 {
@@ -148,6 +154,7 @@ pub fn exponent_count(settings: Settings) -> u32
 }
 
 // The numbers of a transcript's round polynomials: rows·3·L elements of d.
+#[tactic(auto, using(crate::proofs::Limits::allowed_depth))]
 pub fn round_cells(settings: Settings) -> usize
     ensures { Provided (settings_refusal settings ≡ 0) (result ≡ round_cells settings) }
 {
@@ -208,29 +215,25 @@ pub fn leaf_cells(settings: Settings) -> usize
 }
 
 // One factor more, held at one past 2^62.
+#[tactic(auto, using(crate::proofs::Powers::capped))]
 fn capped_times(factor: u64, g: u64) -> u64
     requires { 0 < factor }
     ensures { result ≡ capped_times growth_limit factor g }
 {
-    if g > GROWTH_LIMIT / factor {
-        return BEYOND;
-    }
-    g * factor
+    g.saturating_mul(factor).min(BEYOND)
 }
 
 // (8·d²)^L·B, held at one past 2^62 as soon as it is past it.
+#[tactic(auto, using(crate::proofs::Limits::allowed_degree, protocol::proofs::GrowthTest::square), unfolding(protocol::specs::GrowthTest::capped_power, protocol::specs::GrowthTest::capped_growth, protocol::specs::Tree::growth_factor))]
 pub fn growth(settings: Settings) -> u64
     ensures { Provided (settings_refusal settings ≡ 0) (result ≡ capped_growth settings) }
 {
-    let d = settings.degree as u64;
+    let d = places(settings) as u64;
     if d == 0 {
         return 0;
     }
-    if (d as usize) > WIDTH {
-        return 0;
-    }
     let factor = 8 * d * d;
-    let mut g = settings.bound as u64;
+    let mut g = u64::from(settings.bound);
     for i in 0..settings.depth {
         g = capped_times(factor, g);
     }

@@ -8,17 +8,16 @@ use native.Mathlib.Omega.{arith}
 use mir.Val.{bool_byte}
 use lib.IntN.{ℤ, pos}
 use lib.ListN.{length, get_or, take, drop, length-append, length-drop}
-use lib.Seq.{ext_get_or, take_at, drop_at, drop-length, get_or-take, length-take-le}
+use lib.Seq.{take_at, drop_at, drop-length, get_or-take, length-take-le}
 use Rattle.protocol.specs.Basic.{tabulate, choose}
-use Rattle.protocol.specs.Element.{zeros, padded_signed, coefficients, signed_at}
+use Rattle.protocol.specs.Element.{padded_signed, coefficients, signed_at}
 use Rattle.protocol.proofs.Reading.{tabulate_length, tabulate_ext, tabulate_own}
 use Rattle.residues.specs.Lists.{filled, spliced}
-use Rattle.residues.proofs.Fill.{filled_at, filled-length, zeros-length, zeros_at}
 
 -- a slice of d numbers is the first element of a table
-pub whole-signed : (d : ℕ) (t : List ℤ) → length t ≡ d → padded_signed d (coefficients d (signed_at d t 0)) ≡ padded_signed d t
+pub whole_signed : (d : ℕ) (t : List ℤ) → length t ≡ d → padded_signed d (coefficients d (signed_at d t 0)) ≡ padded_signed d t
 unfolding coefficients signed_at
-whole-signed d t e = ap (padded_signed d) (tabulate_ext d (λ k h. ap (λ n. get_or t (n + k) (pos 0)) (Nat.zero-mul d) ∙ ap (λ n. get_or t n (pos 0)) (Nat.zero-add k)) ∙ tabulate_own d t (pos 0) e)
+whole_signed d t e = ap (padded_signed d) (tabulate_ext d (λ k h. ap (λ n. get_or t (n + k) (pos 0)) (Nat.zero-mul d) ∙ ap (λ n. get_or t n (pos 0)) (Nat.zero-add k)) ∙ tabulate_own d t (pos 0) e)
 
 drop_end {ℓ} : {A : Type ℓ} (n : ℕ) (l : List A) → length l ≡ n → drop n l ≡ []
 drop_end n l e = ap (λ k. drop k l) (sym e) ∙ drop-length l
@@ -28,10 +27,9 @@ pub first_places {ℓ} : {A : Type ℓ} (n : ℕ) (a : List A) (z : A) → n ≤
 first_places n a z h = tabulate_ext n (λ k l. sym (get_or-take n a k z l)) ∙ tabulate_own n (take n a) z (length-take-le n a h)
 
 -- an element that is written over a whole slice
-pub filled-whole : (d k : ℕ) (a l : List ℤ) → d ≤ length a → length l ≡ d → k ≡ d → filled (λ j. get_or a j (pos 0)) k l ≡ take d a
+pub filled_whole : (d : ℕ) (a l : List ℤ) → d ≤ length a → length l ≡ d → filled (λ j. get_or a j (pos 0)) d l ≡ take d a
 unfolding filled
-filled-whole d k a l h e p =
-    ap (λ n. filled (λ j. get_or a j (pos 0)) n l) p ∙ (λ i. first_places d a (pos 0) h i ++ drop_end d l e i) ∙ append-nil _
+filled_whole d a l h e = (λ i. first_places d a (pos 0) h i ++ drop_end d l e i) ∙ append-nil _
 
 pub stored_whole {ℓ} : {A : Type ℓ} (n : ℕ) (f : ℕ → A) (l : List A) → length l ≡ n → spliced f 0 n l ≡ tabulate n f
 unfolding spliced
@@ -80,11 +78,3 @@ pub as_number : (b : Bool) → bool_byte b ≡ choose b 1 0
 unfolding choose
 as_number true = refl
 as_number false = refl
-
--- zeros over all places
-pub filled-zeros : (l : List ℕ) → filled (λ _. 0) (length l) l ≡ zeros (length l)
-filled-zeros l =
-    ext_get_or 0 _ (zeros (length l)) (long ∙ sym (zeros-length (length l))) (λ k h. filled_at (λ _. 0) (length l) l 0 k (omega (arith, long)) ∙ sym (zeros_at (length l) k))
-  where
-    long : length (filled (λ _. 0) (length l) l) ≡ length l
-    long = filled-length (λ _. 0) (length l) l (Nat.le_refl _)

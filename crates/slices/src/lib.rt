@@ -3,63 +3,29 @@
 #![tactic(auto)]
 
 ghost use Rattle.std.specs.Prelude.{◌≡◌, ◌&&◌, ◌+◌, ◌*◌, ◌≤◌, length, get_or, take};
+ghost use Rattle.protocol.specs.Answers.{said};
 ghost use Rattle.protocol.specs.Basic.{Provided};
-ghost use Rattle.protocol.specs.Element.{width, value_row, zeros, padded_signed};
+ghost use Rattle.protocol.specs.Element.{width, value_row, padded_signed};
 ghost use Rattle.protocol.specs.Layout.{rows_most, rows_width, item_cells, polynomial_cells};
+ghost use Rattle.protocol.specs.Refusal.{refusal_of};
 ghost use Rattle.protocol.specs.Rows.{together};
 ghost use Rattle.protocol.specs.Session.{verdict_number};
 ghost use Rattle.protocol.specs.Settings.{settings_refusal};
 ghost use Rattle.residues.specs.Lists.{spliced, spliced_rows};
 ghost use Rattle.slices.specs.Slices.{lent, values_of, laid, placed};
-ghost use Rattle.slices.specs.Slices as slices;
 
-use protocol::{ROWS, ROWS_WIDTH, Residue, Settings, Verdict, WIDTH};
+use protocol::{Item, Polynomial, ROWS, ROWS_WIDTH, Refusal, Residue, Settings, Verdict, WIDTH};
 use ranges::tests;
+use ranges::tests::require;
 use residues::elements;
 
 // Refusals 3 to 6 and 16, then 7 where the slices that are lent beside have not their lengths.
-pub fn refusal(settings: Settings, fits: bool) -> u32
-    ensures { result ≡ lent settings fits 0 }
+#[tactic(auto, unfolding(protocol::specs::Basic::first, protocol::specs::Basic::unless, crate::specs::Slices::lent))]
+pub fn refusal(settings: Settings, fits: bool) -> Result<(), Refusal>
+    ensures { refusal_of result ≡ lent settings fits 0 }
 {
-    tests::refuse(tests::settings_refusal(settings), 7, fits)
-}
-
-// Do two tests pass.
-pub fn both(first: bool, second: bool) -> bool
-    ensures { result ≡ (first && second) }
-{
-    if first {
-        return second;
-    }
-    false
-}
-
-// A number of 64 bits where one of 32 is wanted: one that is too large counts as the largest, which is out of every range.
-pub fn capped(x: u64) -> u32
-    ensures { result ≡ slices.capped x }
-{
-    if x < 4294967296 {
-        return x as u32;
-    }
-    4294967295
-}
-
-// A number of 32 bits as one of 64.
-pub fn wide(x: u32) -> u64
-    ensures { result ≡ x }
-{
-    x as u64
-}
-
-// Writes zeros to all places of a table.
-pub fn clear(t: &mut [Residue])
-    ensures { t.new ≡ zeros (length t.old) }
-{
-    let mut i: usize = 0;
-    while i < t.len() {
-        t[i] = 0;
-        i += 1;
-    }
+    tests::allow(settings)?;
+    require(fits, Refusal::Size)
 }
 
 // Copies d numbers of a table, from place `from` on, to another from place `at` on.
@@ -78,16 +44,11 @@ fn place_rows(d: usize, rows: usize, t: &[Residue], out: &mut [Residue])
     ensures { Provided ((d ≤ width) × (rows ≤ rows_most) × (rows * d ≤ length t.now) × (length out.old ≡ rows_width))
         (out.new ≡ placed d rows t.now out.old) }
 {
-    if d > WIDTH {
+    if d > WIDTH || rows > ROWS {
         return;
     }
-    if rows > ROWS {
-        return;
-    }
-    let mut r: usize = 0;
-    while r < rows {
+    for r in 0..rows {
         copy_row(d, t, r * d, r * WIDTH, out);
-        r += 1;
     }
 }
 
@@ -97,29 +58,25 @@ fn lay_rows(d: usize, rows: usize, a: &[Residue], at: usize, out: &mut [Residue]
     ensures { Provided ((d ≤ width) × (rows ≤ rows_most) × (length a.now ≡ rows_width) × (at + rows * d ≤ length out.old))
         (out.new ≡ spliced_rows (λ r k. get_or (value_row a.now r) k 0) at d rows out.old) }
 {
-    if d > WIDTH {
+    if d > WIDTH || rows > ROWS {
         return;
     }
-    if rows > ROWS {
-        return;
-    }
-    let mut r: usize = 0;
-    while r < rows {
+    for r in 0..rows {
         copy_row(d, a, r * WIDTH, at + r * d, out);
-        r += 1;
     }
 }
 
 // An element of residues of each row.
-pub fn residues(settings: Settings, t: &[Residue]) -> [Residue; ROWS_WIDTH]
+pub fn residues(settings: Settings, t: &[Residue]) -> Item
     ensures { Provided (settings_refusal settings ≡ 0) (Provided (length t.now ≡ item_cells settings) (result ≡ values_of settings t.now)) }
 {
-    let mut a: [Residue; ROWS_WIDTH] = [0; ROWS_WIDTH];
+    let mut a: Item = [0; ROWS_WIDTH];
     place_rows(settings.degree as usize, settings.rows as usize, t, &mut a);
     a
 }
 
 // An element of whole numbers.
+#[tactic(auto, using(crate::proofs::Elements::whole_signed))]
 pub fn wholes(d: u32, t: &[i32]) -> [i32; WIDTH]
     ensures { Provided (d ≤ width) (Provided (length t.now ≡ d) (result ≡ padded_signed d t.now)) }
 {
@@ -127,7 +84,7 @@ pub fn wholes(d: u32, t: &[i32]) -> [i32; WIDTH]
 }
 
 // Writes an element of each row to a slice of rows·d numbers.
-pub fn store_residues(settings: Settings, a: [Residue; ROWS_WIDTH], out: &mut [Residue])
+pub fn store_residues(settings: Settings, a: Item, out: &mut [Residue])
     ensures { Provided (settings_refusal settings ≡ 0) (Provided (length out.old ≡ item_cells settings) (out.new ≡ together settings a)) }
 {
     lay_rows(settings.degree as usize, settings.rows as usize, &a, 0, out);
@@ -140,7 +97,7 @@ pub fn store_wholes(d: u32, a: [i32; WIDTH], out: &mut [i32])
 }
 
 // Writes the three items of a round polynomial one after the other to a slice of 3·rows·d numbers.
-pub fn store_polynomial(settings: Settings, p: [[Residue; ROWS_WIDTH]; 3], out: &mut [Residue])
+pub fn store_polynomial(settings: Settings, p: Polynomial, out: &mut [Residue])
     ensures { Provided (settings_refusal settings ≡ 0)
         (Provided (length out.old ≡ polynomial_cells settings) (out.new ≡ laid settings p)) }
 {
@@ -152,14 +109,27 @@ pub fn store_polynomial(settings: Settings, p: [[Residue; ROWS_WIDTH]; 3], out: 
     lay_rows(d, rows, &p[2], 2 * n, out);
 }
 
-// A verdict as a number.
+// A verdict as a number. (A conversion of the library's would have to stand in the crate of its type, whose numbers these are not.)
+#[tactic(auto, unfolding(protocol::specs::Session::verdict_number))]
 pub fn verdict_number(v: Verdict) -> u32
-    ensures { result ≡ verdict_number v }
+    ensures { result ≡ verdict_number (said v) }
 {
     match v {
-        Verdict::Silent => 0,
         Verdict::Holds => 1,
         Verdict::Accepted => 2,
         Verdict::Rejected => 3,
     }
+}
+
+// ---- to go once nothing calls them
+pub fn both(first: bool, second: bool) -> bool
+    ensures { result ≡ (first && second) }
+{
+    first && second
+}
+
+pub fn wide(x: u32) -> u64
+    ensures { result ≡ x }
+{
+    u64::from(x)
 }

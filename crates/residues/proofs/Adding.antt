@@ -1,0 +1,62 @@
+-- Loops that make each number of a row out of itself and the number at the same place of another row.
+--
+--   both base row j   what number j becomes; z is what is read behind the end of a list, and P what is asked of two numbers
+--   row_turn          a turn of such a loop
+--   row_added         a part of a list to which the numbers of a part of another are added, as it is handed back
+use Rattle.std.proofs.Common.{◌≡◌, ℕ, ◌+◌, ◌-◌, ◌<◌, ◌≤◌, List, ◌++◌, length, get_or, take, drop, set, sym, ap, ◌∙◌, subst, arith, length-drop, length-take-le, get_or-drop, get_or-take}
+use native.Mathlib.Nat as Nat
+use Rattle.std.proofs.lemmas.List.{append-nil, drop_all, get_or_read, get_or_default}
+use Rattle.protocol.specs.Basic.{tabulate}
+use Rattle.protocol.proofs.Reading.{tabulate_ext}
+use Rattle.residues.specs.Lists.{filled, spliced}
+use Rattle.residues.proofs.Fill.{filled-turn, filled-end, filled-behind}
+use Rattle.residues.proofs.Parts.{tail_at}
+
+-- a list that is filled to its end
+pub filled-all : {A : Type 0} (f : ℕ → A) (l : List A) {k : ℕ} {s : List A} → s ≡ filled f k l → length l ≤ k → k ≤ length l → s ≡ tabulate (length l) f
+unfolding filled
+filled-all f l e h m = filled-end f l e (Nat.le_antisymm m h) ∙ ap (λ t. tabulate (length l) f ++ t) (drop_all (length l) l (Nat.le_refl _)) ∙ append-nil (tabulate (length l) f)
+
+module _ {A : Type 0} (z : A) (P : A → A → Type 0) (f : A → A → A) where
+  abbrev pub both : List A → List A → ℕ → A
+  both base row j = f (get_or base j z) (get_or row j z)
+
+  -- what is promised of numbers holds of numbers that are the same
+  promised : {x u y v r : A} → u ≡ x → v ≡ y → (P u v → r ≡ f u v) → P x y → r ≡ f x y
+  promised {x} {u} {y} {v} {r} ex ey h = subst (λ w. P x w → r ≡ f x w) ey (subst (λ w. P w v → r ≡ f w v) ex h)
+
+  module _ (base row s : List A) (k : ℕ) (is : s ≡ filled (both base row) k base) (inside : k < length base) (there : k < length row) where
+    own : (d : A) → get_or s k d ≡ get_or base k z
+    own d = ap (λ l. get_or l k d) is ∙ filled-behind (both base row) k base d k (Nat.le_refl k) ∙ get_or_default base k d z inside
+
+    pub row_turn : (d y : A) {r : A} → y ≡ get_or row k y → (P (get_or s k d) y → r ≡ f (get_or s k d) y) → P (get_or base k z) (get_or row k z)
+        → set s k r ≡ filled (both base row) (k + 1) base
+    row_turn d y read h allowed = filled-turn (both base row) k base is (promised (own d) (get_or_read row k y there read z) h allowed) inside
+
+  abbrev pub Allowed : List A → List A → Type 0
+  Allowed base row = (j : ℕ) → j < length base → P (get_or base j z) (get_or row j z)
+
+  module _ (n from to : ℕ) (a out s : List A) (room : to + n ≤ length out) (h : (j : ℕ) → j < n → P (get_or out (to + j) z) (get_or a (from + j) z)) where
+    abbrev row : List A
+    row = take (length a - from) (drop from a)
+
+    abbrev Owed : ℕ → Type 0
+    Owed m = (Allowed (take m (drop to out)) row → s ≡ tabulate (length (take m (drop to out))) (both (take m (drop to out)) row))
+        → take to out ++ (s ++ drop m (drop to out)) ≡ spliced (λ j. f (get_or out (to + j) z) (get_or a (from + j) z)) to n out
+
+    owed : Owed n
+    unfolding spliced
+    owed e =
+        ap (λ t. take to out ++ (t ++ drop n (drop to out)))
+        (e (λ j l. let b : j < n = omega (arith, l, long) in subst (λ x. P x (get_or row j z)) (sym (at j b)) (subst (P (get_or out (to + j) z)) (sym (tail_at from a j z)) (h j b)))
+        ∙ ap (λ m. tabulate m (both (take n (drop to out)) row)) long
+        ∙ tabulate_ext n (λ j b. (λ i. f (at j b i) (tail_at from a j z i))))
+      where
+        long : length (take n (drop to out)) ≡ n
+        long = length-take-le n (drop to out) (omega (arith, length-drop to out))
+
+        at : (j : ℕ) → j < n → get_or (take n (drop to out)) j z ≡ get_or out (to + j) z
+        at j b = get_or-take n (drop to out) j z b ∙ get_or-drop to out j z
+
+    pub row_added : {m : ℕ} → m ≡ n → Owed m
+    row_added e = subst Owed (sym e) owed
