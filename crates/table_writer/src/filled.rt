@@ -1,5 +1,5 @@
 // A list under way in a place of its own, which has room for N items: those that are in it stand at the front.
-ghost use Rattle.std.specs.Prelude.{◌≡◌, ◌+◌, ◌<◌, ◌≤◌, List, [], ◌∷◌, ◌++◌, length, take};
+ghost use Rattle.std.specs.Prelude.{◌≡◌, ◌+◌, ◌<◌, ◌≤◌, List, [], ◌∷◌, ◌++◌, length, take, slice_set};
 
 use std::marker::Model;
 
@@ -56,5 +56,22 @@ impl<T: Copy, const N: usize> Filled<T, N> {
         let items = &mut self.items[..];
         items[self.count..end].copy_from_slice(xs);
         self.count = end;
+    }
+
+    // As many items more, whatever stands in their places.
+    pub fn grow(&mut self, count: usize)
+        requires { length self.old + count ≤ N }
+        ensures front { take (length self.old) self.new ≡ self.old }
+        ensures len { length self.new ≡ length self.old + count }
+    {
+        self.count += count;
+    }
+
+    pub fn set(&mut self, k: usize, x: T)
+        requires { k < length self.old }
+        ensures { self.new ≡ slice_set self.old k x }
+    {
+        let items = &mut self.items[..];
+        items[k] = x;
     }
 }

@@ -21,13 +21,13 @@ pub fn put_field<const N: usize>(n: u64, behind: u8, text: &mut Filled<u8, N>)
     requires { length text.old + field_room ≤ N }
     ensures { text.new ≡ text.old ++ field n behind }
 {
-    let first = DIGITS - digit_count(n);
-    let mut digits = [0u8; DIGITS];
+    let start = text.len();
+    let end = start + digit_count(n);
+    text.grow(end - start);
     let mut rest = n;
-    for k in (first..DIGITS).rev() {
-        digits[k] = b'0' + ((rest % 10) as u8);
+    for k in (start..end).rev() {
+        text.set(k, b'0' + ((rest % 10) as u8));
         rest /= 10;
     }
-    text.extend(&digits[first..]);
     text.push(behind);
 }
