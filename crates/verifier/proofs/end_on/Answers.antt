@@ -1,9 +1,8 @@
-use Rattle.std.proofs.Common.{◌≡◌, ◌∙◌, ◌≤◌, sym, ap, true, false, length, arith, rules}
+use Rattle.std.proofs.Common.{◌≡◌, ◌∙◌, sym, ap, true, false, length, arith, rules}
 use Rattle.protocol.specs.Answers.{said}
 use Rattle.protocol.specs.Basic.{choose}
 use Rattle.protocol.specs.Session.{verdict, session_end_holds}
 use Rattle.sizes.proofs.Limits.{allowed_depth}
-use Rattle.verifier_refusals.specs.Lent.{record_of}
 use Rattle.verifier_refusals.proofs.Numbers.{number_some}
 use Rattle.verifier.proofs.Answers.{end_given, end_refused, end-said}
 use Rattle.verifier.proofs.end_on.Goals as goal

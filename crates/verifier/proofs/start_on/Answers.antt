@@ -1,4 +1,4 @@
-use Rattle.std.proofs.Common.{◌∙◌, ap, sym, rules}
+use Rattle.std.proofs.Common.{◌∙◌, ap, sym}
 use Rattle.protocol.specs.Element.{zeros}
 use Rattle.verifier_refusals.specs.Lent.{record_of, lent_rows}
 use Rattle.verifier_refusals.proofs.Numbers.{number_some}

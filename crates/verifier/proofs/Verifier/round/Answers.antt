@@ -1,4 +1,4 @@
-use Rattle.std.proofs.Common.{◌∙◌, ap, arith, rules}
+use Rattle.std.proofs.Common.{◌∙◌, ap}
 use Rattle.protocol.specs.declared.Session.{Session}
 use Rattle.protocol.specs.Answers.{as_verdict}
 use Rattle.protocol.specs.Refusal.{refusal_of}

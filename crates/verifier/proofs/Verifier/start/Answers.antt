@@ -1,4 +1,4 @@
-use Rattle.std.proofs.Common.{◌∙◌, ap, arith, rules}
+use Rattle.std.proofs.Common.{◌∙◌, ap, rules}
 use Rattle.protocol.specs.declared.Session.{Session}
 use Rattle.protocol.specs.Refusal.{refusal_of}
 use Rattle.verifier.proofs.ByValue.{by_value, start_same}
