@@ -1,9 +1,8 @@
-use Rattle.std.proofs.Common.{◌%◌, refl, ap, ◌∙◌, mod-lt, arith, rules}
+use Rattle.std.proofs.Common.{◌%◌, refl, ap, ◌∙◌, mod-lt, arith}
 use Rattle.joins.proofs.Joining.{multiple-divided}
-use Rattle.joins.proofs.prepare.Statement.{statement}
-use Rattle.joins.proofs.prepare.Tie as tie
+use Rattle.joins.proofs.prepare.Goals as goal
 
-returns : tie.Need-returns
+pub returns : goal.returns
 returns c = λ m.
     let q = c.args.q in
     let is = c.multiple.ensures m.positive in
@@ -15,6 +14,3 @@ returns c = λ m.
       least = omega (arith, is, mod-lt 9223372036854775808 {m = q} m.positive);
       most = omega (arith, is);
     }
-
-pub prepare_spec : {M : Type 1} → statement M
-prepare_spec = tie.close (tie.spec (λ c κs. search rules) (λ c κs. search rules) returns)
