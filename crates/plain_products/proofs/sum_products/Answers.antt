@@ -2,20 +2,18 @@ use mathlib.Core.Path.{◌≡◌, subst}
 use Prim.Native.Nat.{◌*◌, ◌≤◌}
 use native.Mathlib.Nat as Nat
 use native.Mathlib.Omega.{arith}
-use borrow.Author.Tests.{eqb-true, ltb-true}
 use lib.ListN.{length}
 use Rattle.half_sums.specs.Halves.{size_of}
 use Rattle.product_sums.proofs.Rows.{first_known}
 use Rattle.plain_products.proofs.Rows.{front_given, one_summed}
-use Rattle.plain_products.proofs.sum_products.Statement.{statement}
-use Rattle.plain_products.proofs.sum_products.Tie as tie
+use Rattle.plain_products.proofs.sum_products.Goals as goal
 
-add_products-requires : tie.Need-add_products-requires
-add_products-requires c κs =
+pub add_products-requires : goal.add_products-requires
+add_products-requires c =
     let s = c in
     let a = s.args in
     let is : a.d ≡ 4 = c.if-d-eq4.true in
-    let one : a.rows ≡ 1 = eqb-true _ _ c.if-rows-eq1.true-raw in (
+    let one : a.rows ≡ 1 = c.if-rows-eq1.true in (
       s.requires.4,
       subst (λ d. size_of a.sums d a.n ≤ length a.f.now) is s.requires.2,
       subst (λ d. size_of a.sums d a.n ≤ length a.g.now) is s.requires.3,
@@ -25,14 +23,14 @@ add_products-requires c κs =
     )
 
 -- by columns
-returns-then-q-lt4294967296 : tie.Need-returns-then-q-lt4294967296
+pub returns-then-q-lt4294967296 : goal.returns-then-q-lt4294967296
 returns-then-q-lt4294967296 c = λ G z.
     let a = c.args in
     one_summed a.sums a.q a.d a.n a.rows a.stride a.f.now a.g.now G z.0
-    (eqb-true _ _ c.if-rows-eq1.true-raw) _ _
+    c.if-rows-eq1.true _ _
     (c.add_products.ensures a.d a.t.now (
       c.if-d-eq4.true,
-      ltb-true _ _ c.if-q-lt4294967296.true-raw,
+      c.if-q-lt4294967296.true,
       front_given a.sums a.q a.d a.n a.rows a.stride a.f.now
           a.g.now G z.0,
       z.1,
@@ -40,7 +38,7 @@ returns-then-q-lt4294967296 c = λ G z.
     ))
 
 -- by rows
-returns : tie.Need-returns
+pub returns : goal.returns
 returns c = λ G z.
     let a = c.args in
     let known = first_known a.sums a.q a.d a.n a.rows a.stride a.f.now a.g.now G z.0 in
@@ -50,9 +48,3 @@ returns c = λ G z.
       stands = c.add_elements.ensures
           G known.magnitude (z.0, known.within, c.requires.5, z.1, z.2);
     }
-
-pub sum_products_spec : {M : Type 1} → statement M
-sum_products_spec =
-    tie.close
-    (tie.spec add_products-requires (λ c. search) (λ c. search) (λ c. search) returns-then-q-lt4294967296 (λ c κs. search) (λ c. search) (λ c. search) (λ c. search) (λ c. search) (λ c. search) (λ c. search)
-    returns)

@@ -12,8 +12,7 @@ use Rattle.half_sums.specs.Halves.{size_of, message_sums, key_sums, messages_of,
 use Rattle.product_sums.specs.Sums.{Stands, Summable, Given, Zero}
 use Rattle.plain_products.specs.Sums.{Summed}
 use Rattle.product_sums.proofs.Standing.{stands-zero}
-use Rattle.plain_products.proofs.columnwise.add_products.Statement.{statement}
-use Rattle.plain_products.proofs.columnwise.add_products.Tie as tie
+use Rattle.plain_products.proofs.columnwise.add_products.Goals as goal
 
 -- what the sums become, at every degree that is 4
 abbrev Become : Bool → ℕ → ℕ → List ℤ → List ℕ → List ℕ → List ℕ → List ℕ → ℕ → Type 0
@@ -42,8 +41,8 @@ module _ (q n : ℕ) (f : List ℤ) (g s t s' : List ℕ) (few : q < 2 ^ 32) whe
   tables_become e z zs zt =
       record { count = n * (4 * z.magnitude); few = omega (arith, z.few, Nat.mul_assoc n 4 z.magnitude); stands = e q t z (few, stands-zero q 4 z.elements.modulus _ _ s t zs zt) }
 
-add_sums-requires : tie.Need-add_sums-requires
-add_sums-requires c κs =
+pub add_sums-requires : goal.add_sums-requires
+add_sums-requires c =
     let a = c.args in
     let t = c.if-sums.true in (
       record {
@@ -58,7 +57,7 @@ add_sums-requires c κs =
       c.requires.4,
     )
 
-returns-then-sums : tie.Need-returns-then-sums
+pub returns-then-sums : goal.returns-then-sums
 unfolding Given
 returns-then-sums c = λ d t z.
     let a = c.args in
@@ -66,18 +65,15 @@ returns-then-sums c = λ d t z.
     (sums_become a.q a.n a.f.now a.g.now a.s.now t _ z.1 c.add_sums.ensures)
     z.2 z.3 z.4
 
-add_elements-requires : tie.Need-add_elements-requires
-add_elements-requires c κs =
+pub add_elements-requires : goal.add_elements-requires
+add_elements-requires c =
     let a = c.args in
     let t = c.if-sums.false in
     (size-false a.sums t 4 a.n (length a.f.now) c.requires.1, size-false a.sums t 4 a.n (length a.g.now) c.requires.2, c.requires.5)
 
-returns : tie.Need-returns
+pub returns : goal.returns
 returns c = λ d t z.
     let a = c.args in
     at_four a.sums false c.if-sums.false a.q a.n a.f.now a.g.now a.s.now t _ d z.0
     (tables_become a.q a.n a.f.now a.g.now a.s.now t _ z.1 c.add_elements.ensures)
     z.2 z.3 z.4
-
-pub add_products_spec : {M : Type 1} → statement M
-add_products_spec = tie.close (tie.spec add_sums-requires (λ c. search) (λ c. search) (λ c. search) returns-then-sums add_elements-requires (λ c. search) returns)
