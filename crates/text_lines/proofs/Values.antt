@@ -8,7 +8,7 @@ use mathlib.Core.Path.{◌≡◌, refl, sym, ap, subst, ◌∙◌}
 use mathlib.Core.Bool.{Bool, true, false, ◌&&◌, false≢true}
 use mathlib.Core.List.{List, [], ◌∷◌, ◌++◌, append_assoc, append-nil}
 use mathlib.Core.Option.{Option, none, some, bind}
-use Prim.Native.Nat.{ℕ, ◌+◌, ◌-◌, ◌≤◌}
+use Prim.Native.Nat.{ℕ, ◌≤◌}
 use native.Mathlib.Omega.{arith}
 use native.Mathlib.Decide.{dec_lt}
 use borrow.Author.Tests.{eq-eqb, ne_eqb, eqb-true}
@@ -18,7 +18,7 @@ use lib.IntN.{ℤ}
 use Rattle.protocol.specs.Answers.Number.{Value, Refused}
 use Rattle.text_format.specs.Text.{Spot, Line, bytes, names, settings_shape, spots, keep, read_line, begins_with_names, same_spot, number_answer}
 use Rattle.protocol.proofs.Tests.{and_split, and_intro}
-use Rattle.text_format.specs.Lines.{spot, read_value, read_values, read_settings}
+use Rattle.text_format.specs.Lines.{read_value, read_values, read_settings}
 use Rattle.text_format.proofs.NumeralLaws.{keep_some}
 use Rattle.text_names.proofs.Names.{names-short}
 use Rattle.text_lines.proofs.Counts.{Suffix, Found, found, keep_yes, keep_no, answer_value, answer_refused}
