@@ -1,16 +1,12 @@
-use mathlib.Core.Path.{◌∙◌}
-use Prim.Native.Nat.{◌*◌}
-use native.Mathlib.Omega.{arith}
-use borrow.Author.Rules.{rules}
+use Rattle.std.proofs.Common.{◌∙◌, ◌*◌, arith}
 use Rattle.protocol.specs.Element.{width}
 use Rattle.residues.proofs.Splice.{spliced_ext}
 use Rattle.equations.proofs.Ready.{ready}
 use Rattle.equations.proofs.Polynomials.{part-long}
 use Rattle.row_equations.proofs.RowByRow.{part_back, row_residues, row_value}
-use Rattle.row_equations.proofs.next_row.Statement.{statement}
-use Rattle.row_equations.proofs.next_row.Tie as tie
+use Rattle.row_equations.proofs.next_row.Goals as goal
 
-returns : tie.Need-returns
+pub returns : goal.returns
 returns c = λ g.
     let a = c.args in
     let S = a.settings in
@@ -29,10 +25,3 @@ returns c = λ g.
       room = part-long to S.degree a.claims.now (omega (arith, r.degree_most));
     }))
     ∙ spliced_ext _ _ to S.degree a.claims.now (row_value S v.allowed a.step a.i g.1 a.e a.c0.now a.c1.now a.c2.now)
-
-pub next_row_spec : {M : Type 1} → statement M
-next_row_spec =
-    tie.close
-    (tie.spec (λ c. search rules) (λ c. search rules) (λ c. search rules) (λ c. search rules) (λ c. search rules) (λ c. search rules) (λ c. search rules)
-    (λ c. search rules) (λ c. search rules) (λ c. search rules) (λ c. search rules) (λ c. search rules) (λ c. search rules) (λ c. search rules) (λ c. search rules)
-    (λ c. search rules) (λ c. search rules) (λ c. search rules) (λ c κs. search rules) (λ c. search rules) returns)
