@@ -1,11 +1,15 @@
 -- The extractor's answer: with a refusal, and without one.
-use mathlib.Core.Path.{◌≡◌, sym, ◌∙◌, subst}
+use mathlib.Core.Path.{◌≡◌, sym, ap, ◌∙◌, subst}
+use mathlib.Core.Bool.{Bool}
 use mathlib.Core.List.{List, [], ◌∷◌}
 use Prim.Native.Nat.{ℕ, ◌+◌, ◌*◌, ◌/◌, ◌%◌, ◌<◌, ◌≤◌}
 use native.Mathlib.Nat as Nat
 use lib.IntN.{ℤ, pos, nat_abs}
 use lib.ListN.{get_or}
+use native.Mathlib.Omega.{arith}
 use Rattle.protocol.specs.declared.Settings.{Settings}
+use Rattle.protocol.specs.declared.Refusal.{Refusal}
+use Rattle.protocol.specs.Refusal.{number}
 use Rattle.protocol.specs.Basic.{first, unless}
 use Rattle.protocol.specs.Element.{signed_at}
 use Rattle.protocol.specs.Settings.{size}
@@ -14,10 +18,10 @@ use Rattle.protocol.specs.Tree.{leaf, path, row_path, root_vector, growth_allowe
 use Rattle.protocol.specs.Calls.{every_path, tree_tests, tree_refusal, extract_refusal, extract_exit}
 use Rattle.protocol.specs.Promises.{Extracted}
 use Rattle.protocol.proofs.Tests.{granted-zero, granted_refused}
-use Rattle.protocol.proofs.Refusals.{front-joined}
+use Rattle.protocol.proofs.Refusals.{front-joined, first_stops, first_passes, first_known, first_only}
 use Rattle.claims.proofs.Honest.{degree-positive}
 use Rattle.claims.proofs.Weights.{signed-coefficients}
-use Rattle.refusals.proofs.GivenTree.{ExtractGiven, extract_given}
+use Rattle.refusals.proofs.GivenTree.{number_least, ExtractGiven, extract_given}
 use Rattle.extraction.specs.Nodes.{Extractable}
 
 module _ (S : Settings) (C key rounds E : List ℕ) (finals w : List ℤ) where
@@ -28,9 +32,31 @@ module _ (S : Settings) (C key rounds E : List ℕ) (finals w : List ℤ) where
 
   -- ---- the promise
 
-  pub refused : (n : ℕ) → n ≡ extract_refusal S C key rounds E finals w → (n ≡ 0 → ⊥) → Extracted S C key rounds E finals w n w
+  pub refused : (r : Refusal) → number r ≡ extract_refusal S C key rounds E finals w → Extracted S C key rounds E finals w (number r) w
   unfolding extract_exit
-  refused n e r = record { refusal = e; w_exit = sym (granted_refused _ (root_vector S E finals) w (λ z. r (e ∙ z))) }
+  refused r e = record { refusal = e; w_exit = sym (granted_refused _ (root_vector S E finals) w (λ z. omega (arith, number_least r, e, z))) }
+
+  -- with the refusal of what is tested before the verifier runs
+  pub refused_early : (r : Refusal) → number r ≡ tree_refusal S C key rounds E finals w → Extracted S C key rounds E finals w (number r) w
+  refused_early r e = refused r (sym (tree-joined ∙ first_known _ _ e ∙ first_stops _ _ (λ z. omega (arith, number_least r, z))))
+
+  -- what the verifier says of every path
+  module _ (z : tree_refusal S C key rounds E finals w ≡ 0) (p : Bool) (e : p ≡ every_path S C key rounds E finals) where
+    late : extract_refusal S C key rounds E finals w ≡ first (unless 13 p ∷ unless 14 (growth_allowed S) ∷ [])
+    late = tree-joined ∙ first_passes _ _ z ∙ ap (λ b. first (unless 13 b ∷ unless 14 (growth_allowed S) ∷ [])) (sym e)
+
+    pub refused_branch : (r : Refusal) → number r ≡ unless 13 p → Extracted S C key rounds E finals w (number r) w
+    refused_branch r h = refused r (sym (late ∙ first_known _ _ h ∙ first_stops _ _ (λ z. omega (arith, number_least r, z))))
+
+    module _ (h : 0 ≡ unless 13 p) (g : Bool) (f : g ≡ growth_allowed S) where
+      last : extract_refusal S C key rounds E finals w ≡ unless 14 g
+      last = late ∙ first_passes _ _ (sym h) ∙ first_only _ ∙ ap (unless 14) (sym f)
+
+      pub refused_growth : (r : Refusal) → number r ≡ unless 14 g → Extracted S C key rounds E finals w (number r) w
+      refused_growth r k = refused r (k ∙ sym last)
+
+      pub passed : 0 ≡ unless 14 g → extract_refusal S C key rounds E finals w ≡ 0
+      passed k = last ∙ sym k
 
   pub extracted : extract_refusal S C key rounds E finals w ≡ 0 → (v : List ℤ) → v ≡ root_vector S E finals → Extracted S C key rounds E finals w 0 v
   unfolding extract_exit

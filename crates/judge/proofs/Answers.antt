@@ -9,7 +9,11 @@ use borrow.Author.Tests.{eqb-true, leb-true}
 use lib.IntN.{ℤ}
 use lib.ListN.{length}
 use Rattle.protocol.specs.declared.Settings.{Settings}
-use Rattle.protocol.specs.Answers.{Judged}
+use Rattle.std.specs.Prelude.{Ok, Err}
+use Rattle.protocol.specs.declared.Refusal.{Refusal}
+use Rattle.protocol.specs.Answers.{as_judged}
+use Rattle.protocol.specs.Refusal.{number}
+use Rattle.refusals.proofs.GivenTree.{number_least}
 use Rattle.protocol.specs.Basic.{every}
 use Rattle.protocol.specs.Element.{value_row}
 use Rattle.protocol.specs.Layout.{rows_width, key_cells}
@@ -60,11 +64,11 @@ module _ (S : Settings) (C : List ℕ) (c : ℕ) (key : List ℕ) (w : List ℤ)
         limited = t14;
       }
 
-  pub judge_refused : (n : ℕ) → n ≡ judge_refusal S C c key w → (n ≡ 0 → ⊥) → ◌≡◌ {A = Judged} (record { refusal = n; yes = false }) (judge_answer S C c key w)
+  pub judge_refused : (r : Refusal) → number r ≡ judge_refusal S C c key w → as_judged (Err r) ≡ judge_answer S C c key w
   unfolding judge_answer
-  judge_refused n e r = let none = sym (granted_refused (judge_refusal S C c key w) (judged S key C c w) false (λ z. r (e ∙ z))) in λ i. record { refusal = e i; yes = none i }
+  judge_refused r e = let none = sym (granted_refused (judge_refusal S C c key w) (judged S key C c w) false (λ z. omega (arith, number_least r, e, z))) in λ i. record { refusal = e i; yes = none i }
 
-  pub judge_done : judge_refusal S C c key w ≡ 0 → (y : Bool) → y ≡ judged S key C c w → ◌≡◌ {A = Judged} (record { refusal = 0; yes = y }) (judge_answer S C c key w)
+  pub judge_done : judge_refusal S C c key w ≡ 0 → (y : Bool) → y ≡ judged S key C c w → as_judged (Ok y) ≡ judge_answer S C c key w
   unfolding judge_answer
   judge_done z y e = let all = e ∙ sym (granted-zero _ (judged S key C c w) false z) in λ i. record { refusal = sym z i; yes = all i }
 

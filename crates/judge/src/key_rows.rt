@@ -39,13 +39,5 @@ pub(crate) fn every_row_opens(
     requires { AllRows settings commitment.now key.now w.now }
     ensures { result ≡ every settings.rows (λ i. of.opens settings (key_row settings key.now i) (value_row commitment.now i) c w.now) }
 {
-    let rows = settings.rows as usize;
-    let mut i: usize = 0;
-    while i < rows {
-        if !row_opens(settings, i, commitment, c, key, w) {
-            return false;
-        }
-        i += 1;
-    }
-    true
+    (0..settings.rows as usize).all(|i| row_opens(settings, i, commitment, c, key, w))
 }

@@ -6,36 +6,25 @@ mod key_rows;
 mod scaling;
 
 ghost use Rattle.std.specs.Prelude.{◌≡◌};
+ghost use Rattle.protocol.specs.Answers.{as_judged};
 ghost use Rattle.protocol.specs.Calls.{judge_answer};
 
-use protocol::{Judged, ROWS_WIDTH, Residue, Settings};
+use protocol::{Item, Refusal, Residue, Settings};
 use ranges::tests;
 
 // The judge: is c times the commitment the sum of w_i·G_i modulo q in every row, with no coefficient of w beyond the growth bound.
 pub fn judge(
     settings: Settings,
-    commitment: [Residue; ROWS_WIDTH],
+    commitment: Item,
     c: u32,
     key: &[Residue],
     w: &[i64],
-) -> Judged
-    ensures { result ≡ judge_answer settings commitment c key.now w.now }
+) -> Result<bool, Refusal>
+    ensures { as_judged result ≡ judge_answer settings commitment c key.now w.now }
 {
-    let refusal = refusals::judge::judge(settings, commitment, c, key, w);
-    if refusal != 0 {
-        return Judged {
-            refusal,
-            yes: false,
-        };
-    }
-    if !tests::all_within_wide(sizes::growth(settings), w) {
-        return Judged {
-            refusal: 0,
-            yes: false,
-        };
-    }
-    Judged {
-        refusal: 0,
-        yes: key_rows::every_row_opens(settings, &commitment, c, key, w),
-    }
+    refusals::judge::judge(settings, commitment, c, key, w)?;
+    Ok(
+        tests::all_within_wide(sizes::growth(settings), w)
+            && key_rows::every_row_opens(settings, &commitment, c, key, w),
+    )
 }

@@ -2,6 +2,7 @@
 #![tactic(auto)]
 
 ghost use Rattle.std.specs.Prelude.{◌≡◌, ◌&&◌, length};
+ghost use Rattle.protocol.specs.Answers.{said};
 ghost use Rattle.protocol.specs.Basic.{every, Provided};
 ghost use Rattle.protocol.specs.Element.{signed, residue};
 ghost use Rattle.protocol.specs.Rows.{key_row};
@@ -23,16 +24,15 @@ pub fn check_rows(
 {
     let d = settings.degree as usize;
     let mut met = true;
-    let mut at: usize = 0;
-    let mut r: u32 = 0;
-    while r < settings.rows {
-        if claims.len() - at < d {
+    for r in 0..settings.rows as usize {
+        let at = r * d;
+        let to = at + d;
+        if claims.len() < to {
             return false;
         }
         if rounds.len() < at {
             return false;
         }
-        let to = at + d;
         let holds = equations::rounds::polynomial_holds(
             settings,
             t,
@@ -41,8 +41,6 @@ pub fn check_rows(
         );
         met = met & holds;
         equations::rounds::next_claim(settings, t, e, &rounds[at..], &mut claims[at..to]);
-        at = to;
-        r += 1;
     }
     met
 }
@@ -56,21 +54,18 @@ fn ends_hold(settings: Settings, claims: &[Residue], last: &[i32], key: &[Residu
     let d = settings.degree as usize;
     let mut met = true;
     let mut from: usize = 0;
-    let mut at: usize = 0;
-    let mut r: u32 = 0;
-    while r < settings.rows {
+    for r in 0..settings.rows as usize {
+        let at = r * d;
         if key.len() - from < cells {
             return false;
         }
-        if claims.len() - at < d {
+        if claims.len() < at {
             return false;
         }
         let to = from + cells;
         let holds = equations::end_holds(settings, &claims[at..], last, &key[from..to]);
         met = met & holds;
         from = to;
-        at += d;
-        r += 1;
     }
     met
 }
@@ -84,14 +79,12 @@ pub fn verdict(
     key: &[Residue],
 ) -> Verdict
     ensures { Provided (EndsRead settings (length claims.now) (length last.now) key.now)
-        (result ≡ session.verdict (holds && every settings.rows (λ i. end_met settings (row_claim settings claims.now i) (signed last.now)
+        (said result ≡ session.verdict (holds && every settings.rows (λ i. end_met settings (row_claim settings claims.now i) (signed last.now)
         (residue (key_row settings key.now i))))) }
 {
-    if !holds {
-        return Verdict::Rejected;
+    if holds && ends_hold(settings, claims, last, key) {
+        Verdict::Accepted
+    } else {
+        Verdict::Rejected
     }
-    if ends_hold(settings, claims, last, key) {
-        return Verdict::Accepted;
-    }
-    Verdict::Rejected
 }

@@ -11,7 +11,9 @@ use lib.ListN.{length, get_or, take, drop, length-append, length-drop, get_or-ap
 use lib.Seq.{length-take-le, take_at, drop_at, take-add, drop-drop, get_or-drop, get_or-take, ext_get_or, take_all}
 use Rattle.protocol.specs.declared.Settings.{Settings}
 use Rattle.protocol.specs.Basic.{tabulate}
-use Rattle.protocol.specs.Layout.{item_cells, round_cells}
+use Rattle.protocol.specs.Layout.{item_cells, polynomial_at, round_cells}
+use Rattle.protocol.specs.Calls.{round_refusal}
+use Rattle.prover_refusals.proofs.Given.{first_row, round_given, round_key}
 use Rattle.protocol.specs.Settings.{settings_refusal}
 use Rattle.protocol.specs.Inputs.{Valid, Below}
 use Rattle.protocol.specs.Opening.{round_element, round_table, message_after}
@@ -28,6 +30,14 @@ use Rattle.plain_products.specs.Rowwise.{row_places}
 use Rattle.plain_products.proofs.Rowwise.{empty, put-tail}
 use Rattle.opening_rounds.specs.Rounds.{round_item}
 use Rattle.opening_turns.specs.Turns.{rest_stored}
+
+-- where round t + 1 stands in it
+pub place : (S : Settings) (t : ℕ) (key : List ℕ) (message : List ℤ) → round_refusal S t key message ≡ 0 → (at : ℕ)
+    → (settings_refusal S ≡ 0 → t ≤ 3280 → at ≡ polynomial_at S t) → at ≡ polynomial_at S t
+place S t key message z at is =
+    let ok = (round_key S key message t z).0 in
+    let g = round_given S key message t z 0 (first_row S ok) in
+    is ok (omega (arith, g.turn, g.tables.settings.depth_most))
 
 -- ---- what a callee wrote into a table from place `at` on, handed back
 

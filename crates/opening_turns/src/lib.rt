@@ -8,7 +8,6 @@ ghost use Rattle.std.specs.Prelude.{◌<◌};
 ghost use Rattle.opening_turns.specs.Turns.{ProverMove, VerifierMove, ProverTurn, VerifierTurn};
 
 use protocol::{Residue, Settings};
-use residues::elements;
 
 // Where an opening stands: the rounds done, and whether every round so far held.
 #[derive(Clone, Copy)]
@@ -73,7 +72,7 @@ pub fn prover_turn(
     if t >= settings.depth {
         return state;
     }
-    let e = elements::entry(challenges, t as usize);
+    let e = challenges.get(t as usize).copied().unwrap_or(0);
     prove_round(settings, t, e, claims, key, message, rounds);
     verifier_turn(settings, state, e, claims, key, message, challenges, rounds)
 }

@@ -1,5 +1,6 @@
 -- What is known of the extractor's input where nothing is refused: it is a full tree, every path of it accepted, whose vectors stay within 2^62.
 --
+--   number_least           a refusal's number is not 0
 --   tree_sized S key ..    refusal 7's test; Lengths S key .. is the same as a statement
 --   TreeGiven S C ..       where the tests before the verifier pass
 --   ExtractGiven S C ..    where nothing is refused
@@ -8,12 +9,17 @@ use mathlib.Core.Logic.{◌≢◌}
 use mathlib.Core.Bool.{Bool, true, false, ◌&&◌, not, false≢true}
 use mathlib.Core.List.{List, [], ◌∷◌}
 use Prim.Native.Nat.{ℕ, ◌<◌, ◌≤◌}
+use native.Mathlib.Omega.{arith}
 use borrow.Author.Tests.{eq-eqb, eqb-true, leb-true}
 use lib.Dec.{eqb}
 use lib.IntN.{ℤ}
 use lib.ListN.{length, get_or}
 use Rattle.protocol.specs.declared.Settings.{Settings}
-use Rattle.protocol.specs.Basic.{every, Tested}
+use Rattle.protocol.specs.declared.Refusal.{Refusal}
+use Rattle.protocol.specs.declared.Refusal.TheVariants.{Long, Text, Degree, Depth, Modulus, Bound, Size, Residue, Tall, Challenge, Turn, Twin, Branch, Growth, Slack}
+use Rattle.protocol.specs.declared.Refusal.TheVariants as Code
+use Rattle.protocol.specs.Refusal.{number}
+use Rattle.protocol.specs.Basic.{every}
 use Rattle.protocol.specs.Settings.{settings_refusal, cells, has_length, all_below, residue_rows, exponent, exponents}
 use Rattle.protocol.specs.Layout.{key_cells, nodes, leaves, tree_round_cells, tree_challenges, leaf_cells, exponent_count}
 use Rattle.protocol.specs.Transcript.{accepted}
@@ -24,8 +30,26 @@ use Rattle.protocol.specs.Inputs.{Valid, Below}
 use Rattle.one_claim.specs.Demand3.{FullTree}
 use Rattle.protocol.proofs.Tests.{and_split, every_at}
 use Rattle.protocol.proofs.Inputs.{settings-valid, tested-below}
-use Rattle.protocol.proofs.Refusals.{front-joined, tested-passed, none-refused}
+use Rattle.protocol.proofs.Refusals.{front-joined, none-refused}
 use Rattle.protocol.proofs.Acceptance.{accepted_states}
+
+pub number_least : (r : Refusal) → 1 ≤ number r
+number_least Long = omega arith
+number_least Text = omega arith
+number_least Degree = omega arith
+number_least Depth = omega arith
+number_least Modulus = omega arith
+number_least Bound = omega arith
+number_least Size = omega arith
+number_least Residue = omega arith
+number_least Tall = omega arith
+number_least Challenge = omega arith
+number_least Turn = omega arith
+number_least Twin = omega arith
+number_least Branch = omega arith
+number_least Growth = omega arith
+number_least Slack = omega arith
+number_least Code.Rows = omega arith
 
 abbrev pub tree_sized : Settings → List ℕ → List ℕ → List ℕ → List ℤ → List ℤ → Bool
 tree_sized S key rounds E finals w =
@@ -75,10 +99,6 @@ module _ (S : Settings) (key rounds E : List ℕ) (finals w : List ℤ) where
       let (to-rounds, of-challenges) = and_split to-challenges in
       let (of_key, of-rounds) = and_split to-rounds in
       record { key_long = eqb-true _ _ of_key; rounds_long = eqb-true _ _ of-rounds; challenges-long = eqb-true _ _ of-challenges; finals_long = eqb-true _ _ of-finals; w_long = eqb-true _ _ of-w }
-
-  -- 3 to 7 refuse nothing
-  pub lengths_given : {r : ℕ} → Tested (settings_refusal S) 7 (tree_sized S key rounds E finals w) r → r ≡ 0 → Lengths S key rounds E finals w
-  lengths_given e z = sized-lengths (tested-passed e z)
 
 module _ (S : Settings) (C key rounds E : List ℕ) (finals w : List ℤ) where
   pub tree_given : tree_refusal S C key rounds E finals w ≡ 0 → TreeGiven S C key rounds E finals w

@@ -3,5 +3,3 @@
 
 pub mod judge;
 pub mod tree;
-
-pub use ranges::tests::refuse;

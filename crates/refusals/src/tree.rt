@@ -1,15 +1,17 @@
 // The extractor's refusals before the verifier runs: 3 to 8, 16, 10 and 12. 13 and 14 follow in the extractor.
 ghost use Rattle.std.specs.Prelude.{◌≡◌, ◌+◌, ◌*◌, ◌≤◌, length};
 ghost use Rattle.protocol.specs.Basic.{every};
+ghost use Rattle.protocol.specs.Refusal.{refusal_of};
 ghost use Rattle.protocol.specs.Tree.{apart};
 ghost use Rattle.protocol.specs.Calls.{tree_refusal};
 
-use crate::refuse;
-use protocol::{ROWS_WIDTH, Residue, Settings};
+use protocol::{Item, Refusal, Residue, Settings};
 use ranges::tests;
+use ranges::tests::require;
 use verifier_refusals::rows_below;
 
 // 12 at node k: are its three exponents different, as numbers.
+#[tactic(auto, unfolding(protocol::specs::Tree::apart, protocol::specs::Tree::challenge))]
 fn differ(k: usize, challenges: &[u32]) -> bool
     requires { 3 * k + 3 ≤ length challenges.now }
     ensures { result ≡ apart challenges.now k }
@@ -25,50 +27,41 @@ fn all_differ(nodes: usize, challenges: &[u32]) -> bool
     requires { length challenges.now ≡ 3 * nodes }
     ensures { result ≡ every nodes (apart challenges.now) }
 {
-    let mut k: usize = 0;
-    while k < nodes {
-        if !differ(k, challenges) {
-            return false;
-        }
-        k += 1;
-    }
-    true
+    (0..nodes).all(|k| differ(k, challenges))
 }
 
+#[tactic(auto, unfolding(protocol::specs::Basic::first, protocol::specs::Basic::unless, protocol::specs::Calls::tree_refusal, protocol::specs::Settings::all_below, protocol::specs::Settings::has_length, protocol::specs::Settings::exponent, protocol::specs::Settings::exponents, protocol::specs::Layout::tree_challenges))]
 pub fn extract(
     settings: Settings,
-    commitment: [Residue; ROWS_WIDTH],
+    commitment: Item,
     key: &[Residue],
     rounds: &[Residue],
     challenges: &[u32],
     leaves: &[i32],
     w: &[i64],
-) -> u32
-    ensures { result ≡ tree_refusal settings commitment key.now rounds.now challenges.now leaves.now w.now }
+) -> Result<(), Refusal>
+    ensures { refusal_of result ≡ tree_refusal settings commitment key.now rounds.now challenges.now leaves.now w.now }
 {
-    let cells = sizes::cells(settings);
-    let q = settings.modulus;
-    let r16 = tests::settings_refusal(settings);
-    let r7 = refuse(
-        r16,
-        7,
+    tests::allow(settings)?;
+    require(
         (key.len() == sizes::key_cells(settings))
             & (rounds.len() == sizes::tree_round_cells(settings))
             & (challenges.len() == sizes::tree_challenges(settings))
             & (leaves.len() == sizes::leaf_cells(settings))
-            & (w.len() == cells),
-    );
-    if r7 != 0 {
-        return r7;
-    }
-    let r8 = refuse(
-        r7,
-        8,
+            & (w.len() == sizes::cells(settings)),
+        Refusal::Size,
+    )?;
+    let q = settings.modulus;
+    require(
         tests::all_below_wide(q, key)
             & rows_below(settings, &commitment)
             & tests::all_below_wide(q, rounds),
-    );
+        Refusal::Residue,
+    )?;
     let limit = sizes::exponent_count(settings);
-    let r10 = refuse(r8, 10, tests::all_below(limit, challenges));
-    refuse(r10, 12, all_differ(sizes::nodes(settings), challenges))
+    require(tests::all_below(limit, challenges), Refusal::Challenge)?;
+    require(
+        all_differ(sizes::nodes(settings), challenges),
+        Refusal::Twin,
+    )
 }

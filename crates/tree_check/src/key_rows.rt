@@ -53,13 +53,7 @@ pub(crate) fn every_row_accepted(
         (result ≡ every settings.rows (λ i. tree_accepted settings (row_items settings (tree_challenges settings) rounds.now i) challenges.now leaves.now
         settings.depth 0 0 (value_row commitment.now i) (key_row settings key.now i))) }
 {
-    let rows = settings.rows as usize;
-    let mut i: usize = 0;
-    while i < rows {
-        if !row_accepted(settings, i, commitment, key, rounds, challenges, leaves) {
-            return false;
-        }
-        i += 1;
-    }
-    true
+    (0..settings.rows as usize).all(|i| row_accepted(
+        settings, i, commitment, key, rounds, challenges, leaves,
+    ))
 }

@@ -9,12 +9,13 @@ ghost use Rattle.protocol.specs.Basic.{Provided};
 ghost use Rattle.protocol.specs.Calls.{every_path};
 ghost use Rattle.tree_check.specs.Nodes.{TreeGiven};
 
-use protocol::{ROWS_WIDTH, Residue, Settings};
+use protocol::{Item, Residue, Settings};
+use ranges::tests;
 
 // Is every path of a tree accepted. The key and the tree's tables stay as they are.
 pub fn every_path_accepted(
     settings: Settings,
-    commitment: [Residue; ROWS_WIDTH],
+    commitment: Item,
     key: &[Residue],
     rounds: &[Residue],
     challenges: &[u32],
@@ -23,17 +24,9 @@ pub fn every_path_accepted(
     ensures { Provided (TreeGiven settings key.now rounds.now leaves.now)
         (result ≡ every_path settings commitment key.now rounds.now challenges.now leaves.now) }
 {
-    if ranges::tests::settings_refusal(settings) != 0 {
-        return false;
-    }
-    if key.len() != sizes::key_cells(settings) {
-        return false;
-    }
-    if rounds.len() != sizes::tree_round_cells(settings) {
-        return false;
-    }
-    if leaves.len() != sizes::leaf_cells(settings) {
-        return false;
-    }
-    key_rows::every_row_accepted(settings, &commitment, key, rounds, challenges, leaves)
+    tests::allow(settings).is_ok()
+        && key.len() == sizes::key_cells(settings)
+        && rounds.len() == sizes::tree_round_cells(settings)
+        && leaves.len() == sizes::leaf_cells(settings)
+        && key_rows::every_row_accepted(settings, &commitment, key, rounds, challenges, leaves)
 }
