@@ -39,8 +39,7 @@ fn write_rows(
     let cells = d as usize;
     let mut from: usize = 0;
     let mut at: usize = 0;
-    let mut r: u32 = 0;
-    while r < rows {
+    for _ in 0..rows {
         if out.len() - at < cells {
             return;
         }
@@ -48,7 +47,6 @@ fn write_rows(
         residues::store(cells, &element, 0, &mut out[at..]);
         from = further(from, stride, g.len());
         at += cells;
-        r += 1;
     }
 }
 

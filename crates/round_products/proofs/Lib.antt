@@ -4,3 +4,4 @@ pub mod Halves
 pub mod Mixing
 pub mod Rowwise
 pub mod Itemwise
+pub mod Fronts
