@@ -9,7 +9,11 @@ use native.Mathlib.Omega.{arith}
 use lib.IntN.{ℤ}
 use lib.ListN.{length}
 use Rattle.protocol.specs.declared.Settings.{Settings}
-use Rattle.protocol.specs.Answers.{Verdict}
+use Rattle.std.specs.Prelude.{Ok, Err}
+use Rattle.protocol.specs.declared.Refusal.{Refusal}
+use Rattle.protocol.specs.Answers.{Verdict, said, as_opened}
+use Rattle.protocol.specs.Refusal.{number}
+use Rattle.prover_refusals.proofs.Given.{number_least}
 use Rattle.protocol.specs.Answers.Verdict.{Silent}
 use Rattle.protocol.specs.Basic.{every}
 use Rattle.protocol.specs.Element.{width, zeros, signed_zeros, padded_signed, coefficients, signed_at, signed, residue}
@@ -56,10 +60,9 @@ module _ (S : Settings) (G : List ℕ) (M : List ℤ) (E R : List ℕ) where
   abbrev value : List ℕ
   value = at_rows S (λ r. commitment S (key_row S G r) M)
 
-  pub opening-refused : (n : ℕ) → n ≡ opening_refusal S G M E R → (n ≡ 0 → ⊥)
-      → Opening S G M E R (record { refusal = n; commitment = zeros rows_width; last = signed_zeros width; verdict = Silent }) G M R
+  pub opening-refused : (x : Refusal) → number x ≡ opening_refusal S G M E R → Opening S G M E R (as_opened (Err x)) G M R
   unfolding opening_answer opening_key_exit opening_message_exit opening_rounds_exit
-  opening-refused n e r = record {
+  opening-refused x e = record {
     answer = λ i. record {
       refusal = e i;
       commitment = sym (granted_refused (opening_refusal S G M E R) value (zeros rows_width) some) i;
@@ -73,7 +76,7 @@ module _ (S : Settings) (G : List ℕ) (M : List ℤ) (E R : List ℕ) where
   }
     where
       some : opening_refusal S G M E R ≡ 0 → ⊥
-      some z = r (e ∙ z)
+      some z = omega (arith, number_least x, e, z)
 
   module _ (passed : opening_refusal S G M E R ≡ 0) (C W : List ℕ) (f : List ℤ) (v : Verdict) (r : State) (begun-rounds claims key : List ℕ) (message : List ℤ) (rounds : List ℕ)
       (begins : commit_refusal S G M ≡ 0 → ItemsBegun S G M (zeros rows_width) R C begun-rounds)

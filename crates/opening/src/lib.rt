@@ -1,13 +1,14 @@
 // The whole opening: turns of the prover and the verifier, on tables that are folded in place.
 #![tactic(auto)]
 
-ghost use Rattle.std.specs.Prelude.{◌≡◌};
+ghost use Rattle.std.specs.Prelude.{◌≡◌, Ok};
+ghost use Rattle.protocol.specs.Answers.{as_opened};
 ghost use Rattle.protocol.specs.Basic.{Provided};
 ghost use Rattle.protocol.specs.Calls.{opening_refusal};
 ghost use Rattle.protocol.specs.Promises.{Opening};
 
 use opening_turns::State;
-use protocol::{Opened, ROWS_WIDTH, Residue, Settings, Verdict, WIDTH};
+use protocol::{Item, Outcome, ROWS_WIDTH, Refusal, Residue, Settings};
 use residues::elements;
 
 // The commitment, the round elements, the final element and the verdict, for whoever has tested what `open` tests. Both tables stay as all folds leave them.
@@ -18,11 +19,11 @@ pub fn opened(
     message: &mut [i32],
     challenges: &[u32],
     rounds: &mut [Residue],
-) -> Opened
+) -> Outcome
     ensures { Provided (opening_refusal settings key.old message.old challenges.now rounds.old ≡ 0)
-        (Opening settings key.old message.old challenges.now rounds.old result key.new message.new rounds.new) }
+        (Opening settings key.old message.old challenges.now rounds.old (as_opened (Ok result)) key.new message.new rounds.new) }
 {
-    let mut claims: [Residue; ROWS_WIDTH] = [0; ROWS_WIDTH];
+    let mut claims: Item = [0; ROWS_WIDTH];
     opening_rounds::begin(settings, key, message, &mut claims, rounds);
     let commitment = prover::by_value(settings, &claims);
     let begun = State {
@@ -40,11 +41,10 @@ pub fn opened(
     );
     let last = elements::signed_element_at(settings.degree, message, 0);
     let verdict = opening_checks::verdict(settings, ended.holds, &claims, &last, key);
-    Opened {
-        refusal: 0,
-        commitment: commitment,
-        last: last,
-        verdict: verdict,
+    Outcome {
+        commitment,
+        last,
+        verdict,
     }
 }
 
@@ -55,17 +55,9 @@ pub fn open(
     message: &mut [i32],
     challenges: &[u32],
     rounds: &mut [Residue],
-) -> Opened
-    ensures { Opening settings key.old message.old challenges.now rounds.old result key.new message.new rounds.new }
+) -> Result<Outcome, Refusal>
+    ensures { Opening settings key.old message.old challenges.now rounds.old (as_opened result) key.new message.new rounds.new }
 {
-    let refusal = prover_refusals::opening::open(settings, key, message, challenges, rounds);
-    if refusal != 0 {
-        return Opened {
-            refusal,
-            commitment: [0; ROWS_WIDTH],
-            last: [0i32; WIDTH],
-            verdict: Verdict::Silent,
-        };
-    }
-    opened(settings, key, message, challenges, rounds)
+    prover_refusals::opening::open(settings, key, message, challenges, rounds)?;
+    Ok(opened(settings, key, message, challenges, rounds))
 }
