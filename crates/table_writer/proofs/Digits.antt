@@ -4,9 +4,10 @@
 --   digits_most      no more than nineteen
 --   field-length     a number and a byte behind it
 --   digit-step       one digit more, before those that are stored
+--   digits_none      none of them
 --   digits_done      all of them
 use Rattle.std.specs.Option.{IfNone, IfSome, unwrap_or}
-use Rattle.std.proofs.Common.{Option, None, Some, ◌≡◌, sym, ap, ◌∙◌, List, [], ◌∷◌, ◌++◌, append_assoc, ℕ, suc, ◌+◌, ◌*◌, ◌-◌, ◌/◌, ◌%◌, ◌^◌, ◌<◌, ◌≤◌, min, arith, add-one, ltb, length, take, drop, set, length-append}
+use Rattle.std.proofs.Common.{Option, None, Some, ◌≡◌, sym, ap, ◌∙◌, List, [], ◌∷◌, ◌++◌, append_assoc, ℕ, suc, ◌+◌, ◌*◌, ◌-◌, ◌/◌, ◌%◌, ◌^◌, ◌<◌, ◌≤◌, min, arith, add-one, ltb, length, take, drop, set, length-append, take-append-drop, drop_of_length-le}
 use native.Mathlib.Nat as Nat
 use borrow.Author.Tests.{le-ltb, lt-ltb}
 use lib.Seq.{length-take-le, set_split, drop_at}
@@ -54,11 +55,22 @@ digit-step first j rest digits l h =
     ∙ ap (λ k. low_digits k rest ++ drop (suc j) digits) {x = suc (j - first)} {y = j + 1 - first} (omega arith)
     ∙ ap (λ k. low_digits (j + 1 - first) rest ++ drop k digits) (sym (add-one j))
 
--- all digits, and the byte behind them
-pub digits_done : (first k rest n behind : ℕ) (text digits : List ℕ) → k ≡ first → low_digits (k - first) rest ++ drop k digits ≡ decimal n
-    → (text ++ drop first digits) ++ (behind ∷ []) ≡ text ++ field n behind
-unfolding low_digits field
-digits_done first k rest n behind text digits e h =
-    let all : drop first digits ≡ decimal n =
-    ap (λ m. low_digits m rest ++ drop first digits) {x = 0} {y = k - first} (omega arith) ∙ ap (λ m. low_digits (k - first) rest ++ drop m digits) (sym e) ∙ h in
-    append_assoc text (drop first digits) (behind ∷ []) ∙ ap (λ d. text ++ (d ++ (behind ∷ []))) all
+-- no digit is stored yet, and the byte behind them is
+pub digits_none : (start count n behind : ℕ) (text : List ℕ) → count ≡ digit_count n → length text ≡ start + count + 1
+    → low_digits (start + count - start) n ++ drop (start + count) (set text (start + count) behind) ≡ field n behind
+unfolding low_digits field decimal
+digits_none start count n behind text e long =
+    let end = start + count in
+    ap (λ d. low_digits (end - start) n ++ d) (drop-set_here text end behind (omega arith)
+    ∙ ap (λ l. behind ∷ l) (drop_of_length-le text {i = suc end} (omega arith)))
+    ∙ ap (λ k. low_digits k n ++ (behind ∷ [])) {x = end - start} {y = digit_count n} (omega arith)
+
+-- all digits are stored
+pub digits_done : (start k rest n behind : ℕ) (front text : List ℕ) → k ≡ start → take start text ≡ front → low_digits (k - start) rest ++ drop k text ≡ field n behind
+    → text ≡ front ++ field n behind
+unfolding low_digits
+digits_done start k rest n behind front text e f h =
+    sym (take-append-drop start text)
+    ∙ ap (λ t. t ++ drop start text) f
+    ∙ ap (λ t. front ++ t)
+    (ap (λ m. low_digits m rest ++ drop start text) {x = 0} {y = k - start} (omega arith) ∙ ap (λ m. low_digits (k - start) rest ++ drop m text) (sym e) ∙ h)

@@ -23,11 +23,11 @@ pub fn put_field<const N: usize>(n: u64, behind: u8, text: &mut Filled<u8, N>)
 {
     let start = text.len();
     let end = start + digit_count(n);
-    text.grow(end - start);
+    text.grow(end + 1 - start);
+    text.set(end, behind);
     let mut rest = n;
     for k in (start..end).rev() {
         text.set(k, b'0' + ((rest % 10) as u8));
         rest /= 10;
     }
-    text.push(behind);
 }
