@@ -4,4 +4,3 @@ pub mod Halves
 pub mod Mixing
 pub mod Rowwise
 pub mod Itemwise
-pub mod Fronts

@@ -1,7 +1,7 @@
 use Rattle.std.proofs.Common.{◌<◌, ◌∙◌, sym, ap, subst, get_or, arith, length-take-le}
 use Rattle.residues.proofs.Fill.{filled_none}
 use Rattle.round_products.specs.Sums.{less_both}
-use Rattle.round_products.proofs.Fronts.{front-was, front-turn, front-done}
+use Rattle.residues.proofs.Fronts.{front-was, front-turn, front-done}
 use Rattle.round_products.proofs.difference.Goals as goal
 
 pub loop-k-init : goal.loop-k-init

@@ -2,7 +2,7 @@ use Rattle.std.proofs.Common.{◌<◌, ◌*◌, ◌%◌, ◌^◌, sym, ap, ◌�
 use Rattle.modular.specs.Factors.{Halvable}
 use Rattle.residues.proofs.Fill.{filled_none}
 use Rattle.round_products.specs.Sums.{half}
-use Rattle.round_products.proofs.Fronts.{front-was, front-turn, front-done}
+use Rattle.residues.proofs.Fronts.{front-was, front-turn, front-done}
 use Rattle.round_products.proofs.halve.Goals as goal
 
 pub loop-x-init : goal.loop-x-init
