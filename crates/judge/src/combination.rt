@@ -61,8 +61,8 @@ fn split(q: Residue, shift: u32, w: &[i64], low: &mut [i32], high: &mut [i32])
     ensures { (low.new ≡ filled (λ p. pos (digit q (2 ^ shift) 65536 (get_or w.now p (pos 0)))) (length w.now) low.old)
         × (high.new ≡ filled (λ p. pos (digit q (2 ^ shift * 65536) 65536 (get_or w.now p (pos 0)))) (length w.now) high.old) }
 {
-    for p in 0..w.len() {
-        let m = residue(q, w[p]) >> shift;
+    for (p, x) in w.iter().enumerate() {
+        let m = residue(q, *x) >> shift;
         low[p] = digit_of(1, m);
         high[p] = digit_of(65536, m);
     }
@@ -122,6 +122,7 @@ pub(crate) fn opens(
     let q = settings.modulus;
     let d = settings.degree as usize;
     let factor = scaling::prepared(q, c as u64);
+    // A loop: each place asks of two tables what a closure would have to be shown.
     for k in 0..d {
         if !scaled_is(q, c, factor, commitment[k], sums[k]) {
             return false;

@@ -8,6 +8,7 @@ use Rattle.judge.proofs.judge.Goals as goal
 
 pub returns-in_err-judge : goal.returns-in_err-judge
 returns-in_err-judge c = search (rules, judge_refused)
+
 pub every_row_opens-requires : goal.every_row_opens-requires
 every_row_opens-requires c = (judge_given _ _ _ _ _ (sym c.in_ok-judge.ensures)).rows_given (search rules)
 
