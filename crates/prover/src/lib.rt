@@ -88,15 +88,13 @@ fn fold_keys(settings: Settings, done: u32, e: u32, key: &mut [Residue])
     let d = settings.degree;
     let h = sizes::half_left(settings, done);
     let mut from: usize = 0;
-    let mut r: u32 = 0;
-    while r < settings.rows {
+    for r in 0..settings.rows {
         if key.len() - from < cells {
             return;
         }
         let next = from + cells;
         folds::fold_residues(settings.modulus, d, h, e, &mut key[from..next]);
         from = next;
-        r += 1;
     }
 }
 

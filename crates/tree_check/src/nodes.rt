@@ -11,14 +11,14 @@ ghost use Rattle.protocol.specs.Nodes.{AtNode, Alike};
 ghost use Rattle.tree_check.specs.Nodes.{Folding, RootFolding, RootFolded, Tables, Round, Reduced, Read, tree_row, leaf_met, child_accepted};
 
 use protocol::{Residue, Settings, WIDTH};
-use residues::elements;
 
 // Challenge j of node k.
+#[tactic(auto, unfolding(protocol::specs::Tree::challenge))]
 fn challenge(challenges: &[u32], k: u32, j: u32) -> u32
     requires { (k ≤ 3280) × (j < 3) }
     ensures { result ≡ tree.challenge challenges.now k j }
 {
-    elements::entry(challenges, (3 * k + j) as usize)
+    challenges.get((3 * k + j) as usize).copied().unwrap_or(0)
 }
 
 // Does the round of node k hold.
@@ -152,12 +152,10 @@ const FEW: usize = 1024;
 
 const SMALL_ROOM: usize = FEW + FEW / 2;
 
-fn room() -> [Residue; ROOM] {
-    [0u64; ROOM]
-}
-
-fn small_room() -> [Residue; SMALL_ROOM] {
-    [0u64; SMALL_ROOM]
+fn room<const N: usize>() -> [Residue; N]
+    ensures { length result ≡ N }
+{
+    [0; N]
 }
 
 // Copies the root's key to a workspace, behind its first third, and folds it by X^e to where it begins: to where the root's child looks for its key.
@@ -244,9 +242,9 @@ pub(crate) fn root_accepted(
         return false;
     }
     if key.len() <= FEW {
-        let mut few = small_room();
+        let mut few = room::<SMALL_ROOM>();
         return root_children_accepted(settings, key, rounds, challenges, leaves, &mut few);
     }
-    let mut ws = room();
+    let mut ws = room::<ROOM>();
     root_children_accepted(settings, key, rounds, challenges, leaves, &mut ws)
 }
