@@ -41,7 +41,7 @@ module _ {A : Type 0} (z : A) (P : A → A → Type 0) (f : A → A → A) where
   both base row j = f (get_or base j z) (get_or row j z)
 
   -- what is promised of numbers holds of numbers that are the same
-  promised : {x u y v r : A} → u ≡ x → v ≡ y → (P u v → r ≡ f u v) → P x y → r ≡ f x y
+  pub promised : {x u y v r : A} → u ≡ x → v ≡ y → (P u v → r ≡ f u v) → P x y → r ≡ f x y
   promised {x} {u} {y} {v} {r} ex ey h = subst (λ w. P x w → r ≡ f x w) ey (subst (λ w. P w v → r ≡ f w v) ex h)
 
   module _ (base row s : List A) (k : ℕ) (is : s ≡ filled (both base row) k base) (inside : k < length base) (there : k < length row) where
