@@ -4,8 +4,7 @@
 --   followed-..          the reader of the lines behind the settings
 --   gathered-..          the reader of all values
 use Rattle.std.specs.Prelude.{Option, Some, None}
-use Rattle.std.specs.Option.{option_eq}
-use mathlib.Core.Path.{◌≡◌, refl, sym, ap, subst, ◌∙◌}
+use mathlib.Core.Path.{◌≡◌, sym, ap, subst, ◌∙◌}
 use mathlib.Core.Bool.{Bool, true, false, ◌&&◌, false≢true}
 use mathlib.Core.List.{List, [], ◌∷◌}
 use mathlib.Core.Option.{some}
@@ -94,7 +93,7 @@ module _ (text : List ℕ) (P : Parts) (b : Begun) (b-is : Some b ≡ header_ans
     followed_long n = refused-before (λ e. absurd (omega (arith, (looked text e).short)))
 
     module _ (r : Option ℕ) (t : Took text b.next (part_spots b.settings P) r values) where
-      followed-missed : r ≡ None → Followed P text false values
+      pub followed-missed : r ≡ None → Followed P text false values
       followed-missed f = record {
         unrefused = λ g. absurd (false≢true g);
         answer = λ e. missed-order text P (looked text e) b b-is r values t f;
@@ -114,17 +113,12 @@ module _ (text : List ℕ) (P : Parts) (b : Begun) (b-is : Some b ≡ header_ans
             ∙ ap (λ p. choose p (settings_refusal (settings_of vs)) 2) (values-present (part_spots b.settings P) rest ws end on nothing)
             ∙ ap settings_refusal (sym settings-is) ∙ allowed
 
-        followed-found : Followed P text (eqb next (length text)) values
+        pub followed-found : Followed P text (eqb next (length text)) values
         followed-found = record {
           unrefused = ended-unrefused;
           answer = λ e. found-order text P (looked text e) b b-is r values t next f;
           stored = λ g. found-stored text P (looked text (ended-unrefused g)) b b-is r values t next f g;
         }
-
-    pub followed : (r : Option ℕ) → Took text b.next (part_spots b.settings P) r values → length text ≤ text_limit → settings_refusal b.settings ≡ 0
-        → Followed P text (option_eq eqb r (Some (length text))) values
-    followed None t short allowed = followed-missed None t refl
-    followed (Some next) t short allowed = followed-found (Some next) t short allowed next refl
 
 -- refusals 1 to 7, after a first look
 module _ (P : Parts) (n : List ℕ) (text : List ℕ) (r : Loaded) (r-is : r ≡ look_answer text) (values : List ℤ) where

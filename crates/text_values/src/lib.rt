@@ -31,7 +31,10 @@ fn read_wanted(
     if text.len() > TEXT_LIMIT {
         return false;
     }
-    parts::read_parts(settings, parts, text, from, values) == Some(text.len())
+    let Some(next) = parts::read_parts(settings, parts, text, from, values) else {
+        return false;
+    };
+    next == text.len()
 }
 
 // Refusals 1 to 7 of a text that begins with these settings and is read into tables of these lengths. Where nothing is refused its values stand first in
