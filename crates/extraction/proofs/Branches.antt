@@ -20,6 +20,7 @@ use Rattle.protocol.specs.Nodes.{AtNode}
 use Rattle.protocol.proofs.Numbering.{child-depth}
 use Rattle.protocol.proofs.Places as Places
 use Rattle.claims.proofs.Growth.{height_bound}
+pub use Rattle.extraction.specs.Vectors.{other, another}
 use Rattle.extraction.specs.Vectors.{with_share, Branching, branch_added}
 use Rattle.extraction.specs.Nodes.{Extractable}
 use Rattle.residues.proofs.SignedFill.{signed-zeros_at, signed-zeros-length}
@@ -28,17 +29,6 @@ use Rattle.extraction.proofs.Halves.{with_share-length}
 use Rattle.extraction.proofs.ThreeShares.{three-shares, shared-within}
 use Rattle.extraction.proofs.Nodes.{some, small, vector-within, shares-fit, quotient_fits}
 use Rattle.extraction.proofs.Splicing.{drop-put-end, put-end}
-
--- ---- the other two children
-
-abbrev pub other : ℕ → ℕ
-other zero = 1
-other (suc j) = 0
-
-abbrev pub another : ℕ → ℕ
-another zero = 2
-another (suc zero) = 2
-another (suc (suc j)) = 1
 
 pub record Staged (half space : ℕ) (R W : List ℤ) : Type 0 where
   pub long : length W ≡ space

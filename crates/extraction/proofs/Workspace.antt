@@ -5,7 +5,7 @@ use Prim.Native.Nat.{ℕ, ◌+◌, ◌*◌, ◌-◌, ◌<◌, ◌≤◌}
 use native.Mathlib.Nat as Nat
 use native.Mathlib.Omega.{arith}
 use lib.ListN.{length, get_or, take, drop, length-append, length-drop, length-take, drop_of_length-le, get_or-append}
-use lib.Seq.{get_or-drop}
+use lib.Seq.{drop-append-le, take_at}
 use lib.IntN.{ℤ, pos}
 use Rattle.protocol.specs.declared.Settings.{Settings}
 use Rattle.protocol.specs.Basic.{tabulate}
@@ -25,27 +25,11 @@ module _ (n : ℕ) (l z : List ℤ) (room : n ≤ vector_room) (lent : length l 
   pub kept_long : length (l ++ drop (2 * n) z) ≡ 2 * vector_room
   kept_long = length-append l (drop (2 * n) z) ∙ omega (arith, length-drop (2 * n) z)
 
-  abbrev part : List ℤ
-  part = take (2 * vector_room - n) (drop n (l ++ drop (2 * n) z))
-
-  pub part_room : n ≤ length part
-  part_room = simp (length-take, length-drop) (omega (arith, kept_long))
-
-  part_at : (k : ℕ) → k < n → signed part k ≡ get_or (drop n l) k (pos 0)
-  unfolding signed
-  part_at k h =
-      part-entry n (2 * vector_room - n) (l ++ drop (2 * n) z) k (omega arith)
-      ∙ get_or-append l (drop (2 * n) z) (pos 0) (n + k) (omega arith)
-      ∙ sym (get_or-drop n l k (pos 0))
-
-  pub copied : (w out : List ℤ) → length w ≡ n → out ≡ filled (signed part) n w → out ≡ drop n l
-  unfolding filled
-  copied w out long e =
-      e
-      ∙ filled_ext (signed part) (λ k. get_or (drop n l) k (pos 0)) n w part_at
-      ∙ ap (λ r. tabulate n (λ k. get_or (drop n l) k (pos 0)) ++ r) (drop_of_length-le w {i = n} (omega arith))
-      ∙ append-nil _
-      ∙ tabulate_own n (drop n l) (pos 0) (length-drop n l ∙ omega arith)
+  -- the part that is copied is the second half of l
+  pub copied : take (2 * n - n) (drop n (l ++ drop (2 * n) z)) ≡ drop n l
+  copied =
+      ap (take (2 * n - n)) (drop-append-le n l (drop (2 * n) z) (omega (arith, lent)))
+      ∙ take_at (drop n l) (drop (2 * n) z) (2 * n - n) (length-drop n l ∙ omega (arith, lent))
 
 module _ (S : Settings) (E : List ℕ) (finals : List ℤ) (tree : Extractable S E finals) where
   pub root-room : cells S ≤ vector_room

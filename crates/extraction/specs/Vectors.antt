@@ -7,9 +7,10 @@
 --   Turnable d n e f l     l has 3n elements, and the sums fit
 --   with_share d n e m v R a node's vector R, of 2n elements, with μ·v added to its first half and X^e·μ·v to its second, μ being m
 --   Sharing d n a b c l    a child's vector, of n elements, then the node's: the degree is one, the exponents are different ones, and the sums fit, the share being bounded by μ's weight
+--   other j, another j     the other two children beside child j
 --   branch_added d n k ..  the node's vector after the share of child j at node k, the child's vector standing before it
 --   Branching d n k ..     the list is n free elements, the child's vector and the node's; the challenges of node k are there
-use Rattle.std.specs.Prelude.{◌≡◌, ◌≢◌, List, ◌++◌, ℕ, ◌+◌, ◌*◌, ◌-◌, ◌^◌, ◌<◌, ◌≤◌, length, get_or, take, drop, ℤ, pos, nat_abs, ◌+ℤ◌}
+use Rattle.std.specs.Prelude.{◌≡◌, ◌≢◌, List, ◌++◌, ℕ, zero, suc, ◌+◌, ◌*◌, ◌-◌, ◌^◌, ◌<◌, ◌≤◌, length, get_or, take, drop, ℤ, pos, nat_abs, ◌+ℤ◌}
 use Rattle.algebra.specs.Magnitude.{weight}
 use Rattle.protocol.specs.Basic.{flat}
 use Rattle.protocol.specs.Layout.{width}
@@ -66,6 +67,16 @@ pub record Sharing (d n a b c : ℕ) (l : List ℤ) : Type 0 where
   pub within_node : (j : ℕ) → n * d ≤ j → nat_abs (get_or l j (pos 0)) ≤ bound_node
   pub room : d * d * 2 * bound ≤ 2 ^ 62
   pub room_node : bound_node + weight d (signed (mu d a b c)) * bound ≤ 2 ^ 62
+
+-- the other two children
+abbrev pub other : ℕ → ℕ
+other zero = 1
+other (suc j) = 0
+
+abbrev pub another : ℕ → ℕ
+another zero = 2
+another (suc zero) = 2
+another (suc (suc j)) = 1
 
 module _ (d n k j x y : ℕ) (E : List ℕ) where
   unfoldable pub branch_added : List ℤ → List ℤ

@@ -9,16 +9,6 @@ ghost use Rattle.extraction.specs.Steps.{Mirrored, row_added, rotated_added, div
 
 use residues::{on_circle, row_start};
 
-// Copies the first n numbers of a.
-pub(crate) fn store(n: usize, a: &[i64], out: &mut [i64])
-    requires { (n ≤ length a.now) × (n ≤ length out.old) }
-    ensures { out.new ≡ filled (signed a.now) n out.old }
-{
-    for k in 0..n {
-        out[k] = a[k];
-    }
-}
-
 fn plus(x: i64, y: i64) -> i64
     requires { nat_abs (x +ℤ y) < 2 ^ 63 }
     ensures { result ≡ x +ℤ y }

@@ -4,7 +4,6 @@ ghost use Rattle.protocol.specs.Settings.{cells};
 ghost use Rattle.protocol.specs.Tree.{root_vector};
 ghost use Rattle.extraction.specs.Nodes.{vector_room, Extractable};
 
-use crate::elements::store;
 use crate::vectors::node;
 use protocol::{Settings, WIDTH};
 
@@ -42,5 +41,5 @@ pub(crate) fn root(settings: Settings, challenges: &[u32], leaves: &[i32], w: &m
         &mut ws[..end],
         &mut room,
     );
-    store(cells, &ws[cells..], w);
+    w.copy_from_slice(&ws[cells..end]);
 }

@@ -1,10 +1,10 @@
 // The vectors of a tree's nodes, over whole numbers: flat lists of elements, d numbers each.
 ghost use Rattle.std.specs.Prelude.{◌≡◌, ◌+◌, ◌*◌, ◌-◌, ◌^◌, ◌<◌, ◌≤◌, length, get_or, take, drop};
-ghost use Rattle.protocol.specs.Element.{signed, signed_at, coefficients, signed_zeros};
+ghost use Rattle.protocol.specs.Element.{signed, signed_at, coefficients};
 ghost use Rattle.protocol.specs.Layout.{width, item_of};
 ghost use Rattle.protocol.specs.Tree.{child, challenge, mu, vector};
 ghost use Rattle.residues.specs.Lists.{filled};
-ghost use Rattle.extraction.specs.Vectors.{scaled, Scalable, turned, Turnable, with_share, Sharing, Branching, branch_added};
+ghost use Rattle.extraction.specs.Vectors.{scaled, Scalable, turned, Turnable, with_share, Sharing, other, another, Branching, branch_added};
 ghost use Rattle.protocol.specs.Nodes.{AtNode};
 ghost use Rattle.extraction.specs.Nodes.{Extractable};
 
@@ -56,33 +56,18 @@ fn add_share(d: usize, n: usize, a: usize, b: usize, c: usize, l: &mut [i64], x:
     add_turned(d, n, twice, once, l, x);
 }
 
-fn clear(l: &mut [i64])
-    ensures { l.new ≡ signed_zeros (length l.old) }
+// Copies numbers of a final element.
+fn load(f: &[i32], out: &mut [i64])
+    requires { length out.old ≤ length f.now }
+    ensures { out.new ≡ filled (signed f.now) (length out.old) out.old }
 {
-    let mut i = 0;
-    while i < l.len() {
-        l[i] = 0;
-        i += 1;
-    }
-}
-
-fn widen(x: i32) -> i64
-    ensures { result ≡ x }
-{
-    x as i64
-}
-
-// Copies the first d numbers of a final element.
-fn load(d: usize, f: &[i32], out: &mut [i64])
-    requires { (d ≤ width) × (d ≤ length f.now) × (d ≤ length out.old) }
-    ensures { out.new ≡ filled (signed f.now) d out.old }
-{
-    for k in 0..d {
-        out[k] = widen(f[k]);
+    for (k, x) in out.iter_mut().enumerate() {
+        *x = i64::from(f[k]);
     }
 }
 
 // Challenge j of node k, as an exponent.
+#[tactic(auto, unfolding(protocol::specs::Tree::challenge))]
 fn challenge_of(challenges: &[u32], k: usize, j: usize) -> usize
     requires { item_of k j < length challenges.now }
     ensures { result ≡ challenge challenges.now k j }
@@ -91,6 +76,7 @@ fn challenge_of(challenges: &[u32], k: usize, j: usize) -> usize
 }
 
 // The number of child j of node k.
+#[tactic(auto, unfolding(protocol::specs::Tree::child))]
 fn child_of(k: usize, j: usize) -> usize
     requires { 3 * k + 1 + j < 2 ^ 64 }
     ensures { result ≡ child k j }
@@ -98,21 +84,32 @@ fn child_of(k: usize, j: usize) -> usize
     3 * k + 1 + j
 }
 
-// The share of child j at node k, x and y being the other two children: the child's vector, n elements, stands in the second quarter of ws, the node's in its second half.
+// The other two children beside child j.
+fn others(j: usize) -> (usize, usize)
+    requires { j < 3 }
+    ensures { (result.0 ≡ other j) × (result.1 ≡ another j) }
+{
+    match j {
+        0 => (1, 2),
+        1 => (0, 2),
+        _ => (0, 1),
+    }
+}
+
+// The share of child j at node k: the child's vector, n elements, stands in the second quarter of ws, the node's in its second half.
 fn add_branch(
     d: usize,
     n: usize,
     k: usize,
     j: usize,
-    x: usize,
-    y: usize,
     challenges: &[u32],
     ws: &mut [i64],
     room: &mut [i64],
 )
-    requires { (2 * d ≤ length room.old) × Branching d n k j x y challenges.now ws.old }
-    ensures { drop (2 * (n * d)) ws.new ≡ branch_added d n k j x y challenges.now ws.old }
+    requires { (2 * d ≤ length room.old) × Branching d n k j (other j) (another j) challenges.now ws.old }
+    ensures { drop (2 * (n * d)) ws.new ≡ branch_added d n k j (other j) (another j) challenges.now ws.old }
 {
+    let (x, y) = others(j);
     let a = challenge_of(challenges, k, j);
     let b = challenge_of(challenges, k, x);
     let c = challenge_of(challenges, k, y);
@@ -126,7 +123,7 @@ fn leaf_vector(d: usize, j: usize, leaves: &[i32], ws: &mut [i64])
     ensures { drop d ws.new ≡ coefficients d (signed_at d leaves.now j) }
 {
     let at = j * d;
-    load(d, &leaves[at..], &mut ws[d..]);
+    load(&leaves[at..], &mut ws[d..]);
 }
 
 // The vector of node k, h steps above the leaves, in the second half of ws; what the first half then holds is left free.
@@ -151,38 +148,18 @@ pub(crate) fn node(
     }
     let half = ws.len() / 2;
     let n = half / 2 / d;
-    clear(&mut ws[half..]);
-    node(
-        settings,
-        h - 1,
-        child_of(k, 0),
-        first,
-        challenges,
-        leaves,
-        &mut ws[..half],
-        room,
-    );
-    add_branch(d, n, k, 0, 1, 2, challenges, ws, room);
-    node(
-        settings,
-        h - 1,
-        child_of(k, 1),
-        first,
-        challenges,
-        leaves,
-        &mut ws[..half],
-        room,
-    );
-    add_branch(d, n, k, 1, 0, 2, challenges, ws, room);
-    node(
-        settings,
-        h - 1,
-        child_of(k, 2),
-        first,
-        challenges,
-        leaves,
-        &mut ws[..half],
-        room,
-    );
-    add_branch(d, n, k, 2, 0, 1, challenges, ws, room);
+    ws[half..].fill(0);
+    for j in 0..3 {
+        node(
+            settings,
+            h - 1,
+            child_of(k, j),
+            first,
+            challenges,
+            leaves,
+            &mut ws[..half],
+            room,
+        );
+        add_branch(d, n, k, j, challenges, ws, room);
+    }
 }

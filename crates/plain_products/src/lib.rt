@@ -7,7 +7,7 @@ mod columnwise;
 ghost use Rattle.std.specs.Prelude.{◌≡◌, List, ℕ, ◌+◌, ◌*◌, ◌<◌, ◌≤◌, length};
 ghost use Rattle.protocol.specs.Basic.{Provided};
 ghost use Rattle.protocol.specs.Element.{Element, width, reduced, padded, signed_at, residue_at};
-ghost use Rattle.protocol.specs.Layout.{rows_most};
+ghost use Rattle.protocol.specs.Layout.{rows_most, rows_width};
 ghost use Rattle.protocol.specs.Opening as opening;
 ghost use Rattle.residues.specs.Lists.{filled};
 ghost use Rattle.modular.specs.Factors.{Modulus};
@@ -19,6 +19,12 @@ ghost use Rattle.plain_products.specs.Sums.{Summed, RowsWritten};
 
 use product_sums::{FEW, Sum};
 use protocol::{ROWS, ROWS_WIDTH, Residue, WIDTH};
+
+const THRICE_FEW: usize = 3 * FEW;
+
+const THRICE_WIDTH: usize = 3 * WIDTH;
+
+const THRICE_ROWS_WIDTH: usize = 3 * ROWS_WIDTH;
 
 // Sums of the products of n elements, in each strand, over sums that are 0, whichever way is the quicker; m, a, k and x are rooms.
 fn sum_products(
@@ -58,19 +64,17 @@ fn write_rows(q: Residue, d: u32, rows: u32, s: &[Sum], t: &[Sum], out: &mut [Re
     let joint = joins::prepare(q);
     let cells = d as usize;
     let mut at: usize = 0;
-    let mut r: usize = 0;
-    while r < rows as usize {
+    for r in 0..rows as usize {
         if out.len() - at < cells {
             return;
         }
         joins::elements::join_strand(joint, rows as usize, r, cells, s, t, &mut out[at..]);
         at += cells;
-        r += 1;
     }
 }
 
-// The inner products of all rows, in rooms of which s and t are 0.
-fn inner_in(
+// The inner products of all rows, with room for N numbers of an element, for the C of all strands, and for the X that are prepared of them.
+fn inner_in<const N: usize, const C: usize, const X: usize>(
     sums: bool,
     q: Residue,
     d: u32,
@@ -79,21 +83,23 @@ fn inner_in(
     stride: usize,
     f: &[i32],
     g: &[Residue],
-    m: &mut [i32],
-    a: &mut [Residue],
-    k: &mut [Residue],
-    x: &mut [u64],
-    s: &mut [Sum],
-    t: &mut [Sum],
     out: &mut [Residue],
 )
-    requires { (d ≤ width) × (rows ≤ rows_most) × (size_of sums d n ≤ length f.now) × (size_of sums d n ≤ length g.now) × (0 < q)
-        × Rooms d rows (length m.old) (length a.old) (length k.old) (length x.old) (length s.old) (length t.old) }
-    ensures { (G : ℕ → List ℕ) → Provided (RowsGiven sums q d n rows stride f.now g.now G × (rows * d ≤ length out.old) × Zero s.old × Zero t.old)
+    requires { (d ≤ N) × (N ≤ width) × (d * rows ≤ C) × (C ≤ rows_width) × (3 * (d * rows) ≤ X) × (X ≤ 3 * rows_width) × (rows ≤ rows_most)
+        × (size_of sums d n ≤ length f.now) × (size_of sums d n ≤ length g.now) × (0 < q) }
+    ensures { (G : ℕ → List ℕ) → Provided (RowsGiven sums q d n rows stride f.now g.now G × (rows * d ≤ length out.old))
         (RowsWritten sums q d n rows f.now G out.old out.new) }
 {
-    sum_products(sums, q, d, n, rows, stride, f, g, m, a, k, x, s, t);
-    write_rows(q, d, rows, s, t, out);
+    let mut m = [0i32; N];
+    let mut a = [0u64; N];
+    let mut k = [0u64; C];
+    let mut x = [0u64; X];
+    let mut s = [0u64; C];
+    let mut t = [0u64; C];
+    sum_products(
+        sums, q, d, n, rows, stride, f, g, &mut m, &mut a, &mut k, &mut x, &mut s, &mut t,
+    );
+    write_rows(q, d, rows, &s, &t, out);
 }
 
 // How many numbers a table of n elements has, or one whose halves have n elements.
@@ -142,38 +148,12 @@ pub fn inner_rows(
     }
     let cells = (d as usize) * (rows as usize);
     if cells <= FEW && (d as usize) <= FEW {
-        let mut m = [0i32; FEW];
-        let mut a = [0u64; FEW];
-        let mut k = [0u64; FEW];
-        let mut x = [0u64; 3 * FEW];
-        let mut s = [0u64; FEW];
-        let mut t = [0u64; FEW];
-        inner_in(
-            sums, q, d, n, rows, stride, f, g, &mut m, &mut a, &mut k, &mut x, &mut s, &mut t, out,
-        );
-        return;
+        inner_in::<FEW, FEW, THRICE_FEW>(sums, q, d, n, rows, stride, f, g, out);
+    } else if cells <= WIDTH {
+        inner_in::<WIDTH, WIDTH, THRICE_WIDTH>(sums, q, d, n, rows, stride, f, g, out);
+    } else {
+        inner_in::<WIDTH, ROWS_WIDTH, THRICE_ROWS_WIDTH>(sums, q, d, n, rows, stride, f, g, out);
     }
-    if cells <= WIDTH {
-        let mut m = [0i32; WIDTH];
-        let mut a = [0u64; WIDTH];
-        let mut k = [0u64; WIDTH];
-        let mut x = [0u64; 3 * WIDTH];
-        let mut s = [0u64; WIDTH];
-        let mut t = [0u64; WIDTH];
-        inner_in(
-            sums, q, d, n, rows, stride, f, g, &mut m, &mut a, &mut k, &mut x, &mut s, &mut t, out,
-        );
-        return;
-    }
-    let mut m = [0i32; WIDTH];
-    let mut a = [0u64; WIDTH];
-    let mut k = [0u64; ROWS_WIDTH];
-    let mut x = [0u64; 3 * ROWS_WIDTH];
-    let mut s = [0u64; ROWS_WIDTH];
-    let mut t = [0u64; ROWS_WIDTH];
-    inner_in(
-        sums, q, d, n, rows, stride, f, g, &mut m, &mut a, &mut k, &mut x, &mut s, &mut t, out,
-    );
 }
 
 // The same for one row.

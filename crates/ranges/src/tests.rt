@@ -1,6 +1,6 @@
 // The tests that refusals go by.
-ghost use Rattle.std.specs.Prelude.{◌≡◌, ◌^◌, ◌<◌, ◌≤◌, ◌&&◌, ltb, length, nat_lt, slice_index, unsigned_abs};
-ghost use Rattle.protocol.specs.Basic.{every, all, unless, Provided, Tested};
+ghost use Rattle.std.specs.Prelude.{◌≡◌, ℕ, ℤ, ◌^◌, ◌<◌, ◌≤◌, ◌&&◌, ltb, length, nat_lt, slice_index, unsigned_abs};
+ghost use Rattle.protocol.specs.Basic.{every, all, within, unless, Provided, Tested};
 ghost use Rattle.protocol.specs.Element.{value_row};
 ghost use Rattle.protocol.specs.Refusal.{number, refusal_of};
 ghost use Rattle.protocol.specs.Layout.{width, rows_most, rows_width};
@@ -138,23 +138,52 @@ pub fn rows_below(limit: Residue, d: u32, rows: u32, a: &[Residue]) -> bool
     (0..n).all(|i| row_below(limit, d, i, a))
 }
 
-// Is every number of a table from −bound to bound. All are asked, also behind one that is not, so that the compiler takes several at a time.
-pub fn all_within(bound: u32, t: &[i32]) -> bool
-    ensures { result ≡ all_within bound t.now }
-{
-    let mut good = true;
-    for x in t {
-        good = good & (x.unsigned_abs() <= bound);
-    }
-    good
+// A number with a sign, of 32 bits or of 64, beside the bound of its magnitude.
+pub trait Signed: Copy {
+    type Bound: Copy;
+
+    ghost number: { Self → ℤ };
+
+    ghost bound: { Self.Bound → ℕ };
+
+    // Is it from −bound to bound.
+    fn is_within(self, most: Self::Bound) -> bool
+        ensures { result ≡ within (bound most) (number self) };
 }
 
-pub fn all_within_wide(bound: u64, t: &[i64]) -> bool
-    ensures { result ≡ all_within bound t.now }
+impl Signed for i32 {
+    type Bound = u32;
+
+    ghost number = { λ x. x };
+
+    ghost bound = { λ b. b };
+
+    #[tactic(auto, unfolding(protocol::specs::Basic::within))]
+    fn is_within(self, most: u32) -> bool {
+        self.unsigned_abs() <= most
+    }
+}
+
+impl Signed for i64 {
+    type Bound = u64;
+
+    ghost number = { λ x. x };
+
+    ghost bound = { λ b. b };
+
+    #[tactic(auto, unfolding(protocol::specs::Basic::within))]
+    fn is_within(self, most: u64) -> bool {
+        self.unsigned_abs() <= most
+    }
+}
+
+// Is every number of a table from −bound to bound. All are asked, also behind one that is not, so that the compiler takes several at a time.
+pub fn all_within<T: Signed>(most: T::Bound, t: &[T]) -> bool
+    ensures { result ≡ all (λ x. within (T.bound most) (T.number x)) t.now }
 {
     let mut good = true;
     for x in t {
-        good = good & (x.unsigned_abs() <= bound);
+        good = good & x.is_within(most);
     }
     good
 }

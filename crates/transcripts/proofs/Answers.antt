@@ -10,7 +10,6 @@ use Rattle.std.specs.Prelude.{Result, Ok, Err}
 use Rattle.std.specs.Result.{IsErrAnd, is_err}
 use Rattle.protocol.specs.declared.Settings.{Settings}
 use Rattle.protocol.specs.declared.Refusal.{Refusal}
-use Rattle.protocol.specs.declared.Refusal.TheVariants.{Long, Text, Degree, Depth, Modulus, Bound, Size, Residue, Tall, Challenge, Turn, Twin, Branch, Growth, Slack, Rows}
 use Rattle.protocol.specs.declared.Verdict.{Verdict as Says}
 use Rattle.protocol.specs.Refusal.{number, refusal_of}
 use Rattle.protocol.specs.Answers.{Checked, as_checked}
@@ -26,26 +25,8 @@ use Rattle.protocol.proofs.Tests.{and_split, granted-zero, granted_refused}
 use Rattle.protocol.proofs.Inputs.{settings-valid, tested-below}
 use Rattle.protocol.proofs.Refusals.{none-refused}
 use Rattle.sizes.proofs.Limits.{degree_most}
+use Rattle.verifier_refusals.proofs.Numbers.{number_some}
 use Rattle.transcripts.specs.Given.{TranscriptGiven}
-
--- every refusal has a number
-number_some : (r : Refusal) → number r ≡ 0 → ⊥
-number_some Long e = cc
-number_some Text e = cc
-number_some Degree e = cc
-number_some Depth e = cc
-number_some Modulus e = cc
-number_some Bound e = cc
-number_some Size e = cc
-number_some Residue e = cc
-number_some Tall e = cc
-number_some Challenge e = cc
-number_some Turn e = cc
-number_some Twin e = cc
-number_some Branch e = cc
-number_some Growth e = cc
-number_some Slack e = cc
-number_some Rows e = cc
 
 -- a result with a refusal has its number
 pub failed : {A : Type 0} (x : Result A Refusal) → is_err x ≡ true → refusal_of x ≡ 0 → ⊥
