@@ -80,7 +80,7 @@ pub fn residues(settings: Settings, t: &[Residue]) -> Item
 pub fn wholes(d: u32, t: &[i32]) -> [i32; WIDTH]
     ensures { Provided (d ≤ width) (Provided (length t.now ≡ d) (result ≡ padded_signed d t.now)) }
 {
-    elements::signed_element_at(d, t, 0)
+    elements::element_at(d, t, 0)
 }
 
 // Writes an element of each row to a slice of rows·d numbers.
@@ -93,7 +93,7 @@ pub fn store_residues(settings: Settings, a: Item, out: &mut [Residue])
 pub fn store_wholes(d: u32, a: [i32; WIDTH], out: &mut [i32])
     ensures { Provided (d ≤ width) (Provided (length out.old ≡ d) (out.new ≡ take d a)) }
 {
-    elements::store_signed(d as usize, &a, out);
+    residues::store(d as usize, &a, 0, out);
 }
 
 // Writes the three items of a round polynomial one after the other to a slice of 3·rows·d numbers.
