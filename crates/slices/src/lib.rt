@@ -52,7 +52,8 @@ fn place_rows(d: usize, rows: usize, t: &[Residue], out: &mut [Residue])
     }
 }
 
-// Writes the elements of the rows by value to a flat table from place `at` on.
+// Writes the elements of the rows by value to a flat table from place `at` on. (Not one function with the last: what stays as it was differs, the places between the
+// rows there, what is before and behind here.)
 fn lay_rows(d: usize, rows: usize, a: &[Residue], at: usize, out: &mut [Residue])
     requires { at ≤ 2 * rows_width }
     ensures { Provided ((d ≤ width) × (rows ≤ rows_most) × (length a.now ≡ rows_width) × (at + rows * d ≤ length out.old))

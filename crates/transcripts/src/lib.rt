@@ -1,4 +1,5 @@
-// The check of a whole transcript: its refusal, and then row by row a core on slices that copies no element of the tables.
+// The check of a whole transcript: its refusal, and then row by row a core on slices that copies no element of the tables. The parts of a transcript are parameters one
+// by one, as the calls take them: a contract over a struct that holds references has to name each part as `parts.entry.rounds.now`, which is no plainer.
 #![tactic(auto)]
 
 ghost use Rattle.std.specs.Prelude.{true, ◌≡◌, ◌<◌, length};
