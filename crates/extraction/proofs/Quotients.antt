@@ -1,8 +1,8 @@
 -- Division of 2·a by 1 − X^k by doubling k: after j doublings a has become a·(1 − X^(2^j·k))/(1 − X^k), and once 2^j·k is d on the circle of 2d exponents the numerator is 2·a.
 use mathlib.Core.Path.{◌≡◌, sym, ap, ◌∙◌, subst}
-use mathlib.Core.Bool.{Bool, true, false, false≢true}
+use mathlib.Core.Bool.{Bool, false, false≢true}
 use mathlib.Core.List.{List}
-use Prim.Native.Nat.{ℕ, zero, suc, ◌+◌, ◌*◌, ◌-◌, ◌/◌, ◌%◌, ◌^◌, ◌<◌, ◌≤◌}
+use Prim.Native.Nat.{ℕ, zero, suc, ◌+◌, ◌*◌, ◌/◌, ◌%◌, ◌^◌, ◌<◌, ◌≤◌}
 use native.Mathlib.Nat as Nat
 use native.Mathlib.Decide.{ℕ_discrete, dec_lt}
 use native.Mathlib.Numerals.{add-one}
@@ -14,7 +14,7 @@ use lib.Seq.{ext_get_or}
 use lib.Pow as Pow
 use lib.IntN.{ℤ, pos, nat_abs, ◌+ℤ◌}
 use Rattle.protocol.specs.Basic.{least}
-use Rattle.protocol.specs.Element.{Element, around, rotate, plus, signed}
+use Rattle.protocol.specs.Element.{Element, rotate, plus, signed}
 use Rattle.protocol.proofs.Tests.{least_first, least_is}
 use Rattle.claims.proofs.Bounds.{Bounded, rotate-bounded, plus-bounded}
 use Rattle.residues.proofs.Fill.{filled, filled_at, filled-behind, filled-length, filled_ext, filled-again}

@@ -2,18 +2,16 @@
 use mathlib.Core.Path.{◌≡◌, sym, ap, ◌∙◌, subst}
 use mathlib.Core.Logic.{◌≢◌}
 use mathlib.Core.List.{List, ◌++◌}
-use Prim.Native.Nat.{ℕ, ◌+◌, ◌*◌, ◌-◌, ◌/◌, ◌%◌, ◌<◌, ◌≤◌}
+use Prim.Native.Nat.{ℕ, ◌+◌, ◌*◌, ◌-◌, ◌%◌, ◌<◌, ◌≤◌}
 use native.Mathlib.Nat as Nat
-use native.Mathlib.Decide.{dec_lt}
 use native.Mathlib.Omega.{arith}
 use lib.ListN.{length, get_or, take, drop, length-append, length-drop, get_or-append}
-use lib.Seq.{length-take-le, get_or-take, get_or-drop, get_or-append-add, ext_get_or}
+use lib.Seq.{length-take-le, get_or-take, get_or-drop, get_or-append-add}
 use lib.IntN.{ℤ, pos, nat_abs, ◌+ℤ◌}
 use Rattle.algebra.specs.Magnitude.{weight}
-use Rattle.protocol.specs.Basic.{flat}
 use Rattle.protocol.specs.Element.{Element, rotate, signed, signed_at}
 use Rattle.protocol.specs.Tree.{gap, mu, share}
-use Rattle.protocol.proofs.Reading.{by_cells, flat-length, flat_at, flat-front, cell-inside}
+use Rattle.protocol.proofs.Reading.{by_cells, cell-inside}
 use Rattle.protocol.proofs.Rotation.{rotate-plus, rotate-add}
 use Rattle.claims.proofs.Bounds.{Bounded}
 use Rattle.claims.proofs.Growth.{share-turned}

@@ -5,11 +5,11 @@ use Prim.Native.Nat.{ℕ, ◌+◌, ◌*◌, ◌-◌, ◌<◌, ◌≤◌}
 use native.Mathlib.Nat as Nat
 use native.Mathlib.Decide.{dec_lt}
 use native.Mathlib.Omega.{arith}
-use lib.ListN.{length, get_or, get_or-eq_default}
+use lib.ListN.{get_or, get_or-eq_default}
 use lib.IntN.{ℤ, pos, nat_abs, ◌+ℤ◌, +ℤ_idl}
 use Rattle.algebra.specs.Magnitude.{nat_abs-add, weight}
 use Rattle.protocol.specs.Basic.{flat}
-use Rattle.protocol.specs.Element.{Element, rotate, signed, signed_at, signed_zeros}
+use Rattle.protocol.specs.Element.{rotate, signed, signed_at, signed_zeros}
 use Rattle.protocol.specs.Tree.{share, joined}
 use Rattle.protocol.proofs.Reading.{by_cells, flat_ext}
 use Rattle.claims.proofs.Bounds.{Bounded}

@@ -1,24 +1,19 @@
 -- The root's vector in a local list with room for two vectors: there is room for it, and its second half, copied, is the vector.
 use mathlib.Core.Path.{◌≡◌, sym, ap, ◌∙◌, subst}
-use mathlib.Core.List.{List, ◌++◌, append-nil}
-use Prim.Native.Nat.{ℕ, ◌+◌, ◌*◌, ◌-◌, ◌<◌, ◌≤◌}
+use mathlib.Core.List.{List, ◌++◌}
+use Prim.Native.Nat.{ℕ, ◌*◌, ◌-◌, ◌≤◌}
 use native.Mathlib.Nat as Nat
 use native.Mathlib.Omega.{arith}
-use lib.ListN.{length, get_or, take, drop, length-append, length-drop, length-take, drop_of_length-le, get_or-append}
+use lib.ListN.{length, take, drop, length-append, length-drop, length-take}
 use lib.Seq.{drop-append-le, take_at}
-use lib.IntN.{ℤ, pos}
+use lib.IntN.{ℤ}
 use Rattle.protocol.specs.declared.Settings.{Settings}
-use Rattle.protocol.specs.Basic.{tabulate}
-use Rattle.protocol.specs.Element.{signed}
 use Rattle.protocol.specs.Settings.{size, cells}
 use Rattle.protocol.specs.Tree.{nodes}
-use Rattle.protocol.proofs.Reading.{tabulate_own}
 use Rattle.protocol.proofs.GrowthTest.{growth-cells}
 use Rattle.protocol.proofs.Numbering.{AtDepth, root-depth}
-use Rattle.residues.proofs.Fill.{filled, filled_ext}
 use Rattle.protocol.specs.Nodes.{AtNode}
 use Rattle.extraction.specs.Nodes.{vector_room, Extractable}
-use Rattle.extraction.proofs.Parts.{part-entry}
 
 -- l is what such a list, z, holds in its first 2·n places after the call
 module _ (n : ℕ) (l z : List ℤ) (room : n ≤ vector_room) (lent : length l ≡ 2 * n) (all : length z ≡ 2 * vector_room) where

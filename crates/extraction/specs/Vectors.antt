@@ -10,7 +10,7 @@
 --   other j, another j     the other two children beside child j
 --   branch_added d n k ..  the node's vector after the share of child j at node k, the child's vector standing before it
 --   Branching d n k ..     the list is n free elements, the child's vector and the node's; the challenges of node k are there
-use Rattle.std.specs.Prelude.{◌≡◌, ◌≢◌, List, ◌++◌, ℕ, zero, suc, ◌+◌, ◌*◌, ◌-◌, ◌^◌, ◌<◌, ◌≤◌, length, get_or, take, drop, ℤ, pos, nat_abs, ◌+ℤ◌}
+use Rattle.std.specs.Prelude.{◌≡◌, ◌≢◌, List, ◌++◌, ℕ, zero, suc, ◌+◌, ◌*◌, ◌^◌, ◌<◌, ◌≤◌, length, get_or, take, drop, ℤ, pos, nat_abs, ◌+ℤ◌}
 use Rattle.algebra.specs.Magnitude.{weight}
 use Rattle.protocol.specs.Basic.{flat}
 use Rattle.protocol.specs.Layout.{width}

@@ -9,9 +9,9 @@ use native.Mathlib.Omega.{arith}
 use lib.IntN.{ℤ}
 use lib.ListN.{length}
 use Rattle.protocol.specs.declared.Settings.{Settings}
-use Rattle.std.specs.Prelude.{Ok, Err}
+use Rattle.std.specs.Prelude.{Err}
 use Rattle.protocol.specs.declared.Refusal.{Refusal}
-use Rattle.protocol.specs.Answers.{Verdict, said, as_opened}
+use Rattle.protocol.specs.Answers.{Verdict, as_opened}
 use Rattle.protocol.specs.Refusal.{number}
 use Rattle.prover_refusals.proofs.Given.{number_least}
 use Rattle.protocol.specs.Answers.Verdict.{Silent}

@@ -1,7 +1,7 @@
 -- The refusals before the verifier runs, then 13, then 14; the root's vector is written after the last test.
-use Rattle.std.proofs.Common.{◌≡◌, sym, rules}
+use Rattle.std.proofs.Common.{◌≡◌, sym}
 use Rattle.std.proofs.lemmas.Result.{err_from_is_err_and}
-use Rattle.protocol.specs.Calls.{every_path, tree_refusal, extract_refusal}
+use Rattle.protocol.specs.Calls.{every_path, tree_refusal}
 use Rattle.refusals.proofs.GivenTree.{tree_given}
 use Rattle.extraction.proofs.Answers.{refused_early, refused_branch, refused_growth, passed, extracted, extractable}
 use Rattle.extraction.proofs.extract.Goals as goal

@@ -1,4 +1,4 @@
-use Rattle.std.proofs.Common.{rules, sym}
+use Rattle.std.proofs.Common.{rules}
 use Rattle.protocol.specs.Element.{zeros}
 use Rattle.opening.proofs.Answers.{opening-done}
 use Rattle.opening.proofs.opened.Goals as goal

@@ -7,7 +7,7 @@ use native.Mathlib.Omega.{arith}
 use borrow.Author.Rules.{rules}
 use lib.ListN.{length, get_or, set, length-set}
 use lib.Seq.{get_or-set_same, get_or-set_other}
-use lib.IntN.{ℤ, pos, neg_ℤ, nat_abs, ◌+ℤ◌, +ℤ_idl}
+use lib.IntN.{ℤ, pos, neg_ℤ, nat_abs, +ℤ_idl}
 use mir.Syntax.{w64}
 use Rattle.algebra.specs.Magnitude.{nat_abs-neg}
 use Rattle.ranges.proofs.Magnitude.{through-bits}

@@ -1,9 +1,9 @@
 -- The root's vector is worked out in a local list and then copied.
-use Rattle.std.proofs.Common.{◌≡◌, ◌≤◌, ◌*◌, ◌-◌, ◌++◌, List, ℤ, ℕ, sym, ap, ◌∙◌, length, drop, take, length-drop, arith}
+use Rattle.std.proofs.Common.{◌≡◌, ◌≤◌, ◌*◌, List, ℤ, ℕ, sym, ap, ◌∙◌, length, drop, length-drop, arith}
 use lib.Seq.{length-take-le}
 use Rattle.protocol.specs.declared.Settings.{Settings}
 use Rattle.protocol.specs.Settings.{size, cells}
-use Rattle.protocol.specs.Tree.{nodes, root_vector}
+use Rattle.protocol.specs.Tree.{root_vector}
 use Rattle.protocol.proofs.Inputs.{valid-settings}
 use Rattle.extraction.specs.Nodes.{vector_room, Extractable}
 use Rattle.extraction.proofs.Workspace.{kept_long, copied, root-room, root_at}

@@ -1,4 +1,4 @@
-use Rattle.std.proofs.Common.{◌≡◌, ◌+◌, ◌*◌, ◌≤◌, ◌∙◌, sym, refl, subst, add-one, length, arith, rules}
+use Rattle.std.proofs.Common.{◌≡◌, ◌*◌, ◌≤◌, ◌∙◌, sym, refl, subst, add-one, length, arith, rules}
 use Rattle.protocol.specs.Element.{signed_zeros}
 use Rattle.protocol.specs.Layout.{width}
 use Rattle.extraction.proofs.Nodes as L

@@ -1,6 +1,5 @@
-use Rattle.std.proofs.Common.{◌≡◌, refl, ap, ◌∙◌, arith}
-use Rattle.protocol.specs.declared.Settings.{Settings}
-use Rattle.protocol.specs.Layout.{item_cells, polynomial_at}
+use Rattle.std.proofs.Common.{refl, ap, ◌∙◌, arith}
+use Rattle.protocol.specs.Layout.{item_cells}
 use Rattle.prover_refusals.proofs.Given.{first_row, round_given, round_key}
 use Rattle.residues.specs.Lists.{spliced}
 use Rattle.residues.proofs.Parts.{tail-length}

@@ -1,4 +1,4 @@
-use Rattle.std.proofs.Common.{◌≡◌, ◌+◌, ◌*◌, sym, ap, ◌∙◌, subst, arith, drop, length-drop}
+use Rattle.std.proofs.Common.{◌+◌, ◌*◌, sym, ap, ◌∙◌, subst, arith, drop, length-drop}
 use Rattle.protocol.specs.Layout.{item_cells, polynomial_at}
 use Rattle.prover_refusals.proofs.Given.{round_key}
 use Rattle.residues.specs.Lists.{spliced}
