@@ -25,10 +25,7 @@ fn move_down(n: usize, from: usize, to: usize, t: &mut [Residue])
     if to == from {
         return;
     }
-    for k in 0..n {
-        let y = t[from + k];
-        t[to + k] = y;
-    }
+    t.copy_within(from..from + n, to);
 }
 
 // Adds the number that stands `place` places behind `from` to the one that stands as far behind `to`, or takes it away.
