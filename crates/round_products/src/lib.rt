@@ -13,6 +13,7 @@ ghost use Rattle.round_products.specs.Sums.{half, Halvables, less_both};
 ghost use Rattle.round_products.specs.Items.{inner_item, ItemsGiven, Sent};
 
 use modular::halves;
+use product_sums::Shape;
 use protocol::{Residue, Settings};
 
 // The first n numbers of a table of residues, each halved t times modulo q.
@@ -41,17 +42,15 @@ pub fn items(
     ensures { (G : ℕ → List ℕ) → Provided (ItemsGiven sums settings h message.now key.now G × (item_cells settings ≤ length out.old))
         (out.new ≡ filled (row_places settings.degree (inner_item sums settings h (half settings.modulus ^ t) message.now G)) (item_cells settings) out.old) }
 {
-    products::inner_rows(
+    let shape = Shape {
         sums,
-        settings.modulus,
-        settings.degree,
-        h,
-        settings.rows,
-        sizes::cells(settings),
-        message,
-        key,
-        out,
-    );
+        modulus: settings.modulus,
+        degree: settings.degree,
+        elements: h,
+        rows: settings.rows,
+        stride: sizes::cells(settings),
+    };
+    products::inner_rows(shape, message, key, out);
     halve(settings.modulus, sizes::item_cells(settings), t, out);
 }
 

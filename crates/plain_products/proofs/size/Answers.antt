@@ -1,10 +1,10 @@
 use Rattle.half_sums.specs.Halves.{size_of}
 use Rattle.plain_products.proofs.size.Goals as goal
 
-pub returns-then-sums : goal.returns-then-sums
+pub returns-then-shape : goal.returns-then-shape
 unfolding size_of
-returns-then-sums c = rw c.if-sums.true
+returns-then-shape c = rw c.if-shape.true
 
 pub returns : goal.returns
 unfolding size_of
-returns c = rw c.if-sums.false
+returns c = rw c.if-shape.false

@@ -5,14 +5,14 @@ use Rattle.protocol.specs.Opening.{inner}
 use Rattle.residues.proofs.Fill.{replicate_at}
 use Rattle.half_sums.specs.Halves.{messages_of, keys_of}
 use Rattle.product_sums.proofs.Rows.{first_known}
-use Rattle.plain_products.proofs.inner_in.Goals as goal
+use Rattle.plain_products.proofs.inner_with.Goals as goal
 
 pub returns : goal.returns
 returns g c = λ G z.
     let a = c.args in
-    let known = first_known a.sums a.q a.d a.n a.rows a.stride a.f.now a.g.now G z.0 in
+    let known = first_known a.shape.sums a.shape.modulus a.shape.degree a.shape.elements a.shape.rows a.shape.stride a.f.now a.g.now G z.0 in
     let sum = c.sum_products in
-    let F : ℕ → Element = λ r. inner a.d a.n (messages_of a.sums a.d a.n a.f.now) (keys_of a.sums a.q a.d a.n (G r)) in
+    let F : ℕ → Element = λ r. inner a.shape.degree a.shape.elements (messages_of a.shape.sums a.shape.degree a.shape.elements a.f.now) (keys_of a.shape.sums a.shape.modulus a.shape.degree a.shape.elements (G r)) in
     c.write_rows.ensures F (
       record { positive = known.modulus; most = known.modulus_most_holds },
       known.degree_most,
