@@ -54,6 +54,7 @@ fn fill<'a, T: Held>(values: &'a [i64], table: &mut [T]) -> &'a [i64]
     ensures stored { table.new ≡ map T.held (take (length table.old) values.now) }
     ensures left { result.now ≡ drop (length table.old) values.now }
 {
+    // By index: of a table that is written through `iter_mut` its length alone is known behind the loop.
     for i in 0..table.len() {
         table[i] = T::held(values[i]);
     }

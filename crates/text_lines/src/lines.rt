@@ -102,6 +102,7 @@ pub fn all_lines(text: &[u8], from: usize) -> bool
     ensures { result ≡ present (all_lines (drop from text.now)) }
 {
     let mut at = from;
+    // No `for`: where the next line begins is known when this one has been read.
     while at < text.len() {
         let Some(line) = read_line(text, at) else {
             return false;

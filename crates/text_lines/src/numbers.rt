@@ -39,6 +39,7 @@ fn digit_run(text: &[u8], at: usize) -> Run
 {
     let mut value = u64::from(text[at] - b'0');
     let mut next = at + 1;
+    // No `for`: where the digits end is known when they have been read.
     while digit_at(text, next) {
         value = with_digit(value, text[next] - b'0');
         next += 1;

@@ -21,6 +21,7 @@ pub fn read_part(text: &[u8], from: usize, shape: Shape, values: &mut [i64]) -> 
     let size = shape.size();
     let mut at = from;
     let mut cell = Cell { item: 0, place: 0 };
+    // By index: of a table that is written through `iter_mut` its length alone is known behind the loop.
     for p in 0..size {
         let Ok(Number { value, next }) = value_at(text, at, shape.part, cell.item, cell.place)
         else {
