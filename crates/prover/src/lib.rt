@@ -13,6 +13,7 @@ ghost use Rattle.protocol.specs.Promises.{Folded};
 ghost use Rattle.slices.specs.Slices.{values_of};
 ghost use Rattle.prover.specs.Rowwise.{CommitTo, KeysGiven};
 
+use product_sums::Shape;
 use protocol::{Item, Polynomial, ROWS_WIDTH, Refusal, Residue, Settings, WIDTH};
 use residues::elements;
 
@@ -37,17 +38,15 @@ pub fn commit_to(
     ensures { CommitTo settings key.now message.now out.old (refusal_of result) out.new }
 {
     prover_refusals::prover::commit(settings, key, message)?;
-    products::inner_rows(
-        false,
-        settings.modulus,
-        settings.degree,
-        sizes::left(settings, 0),
-        settings.rows,
-        sizes::cells(settings),
-        message,
-        key,
-        out,
-    );
+    let shape = Shape {
+        sums: false,
+        modulus: settings.modulus,
+        degree: settings.degree,
+        elements: sizes::left(settings, 0),
+        rows: settings.rows,
+        stride: sizes::cells(settings),
+    };
+    products::inner_rows(shape, message, key, out);
     Ok(())
 }
 

@@ -31,24 +31,7 @@ use Rattle.protocol.proofs.Refusals.{none-refused, moving_tested}
 use Rattle.protocol.proofs.OpeningLaws.{left_inside}
 use Rattle.protocol.proofs.Rows.{key_row-below}
 pub use Rattle.prover_refusals.specs.Given.{TablesGiven, SmallLeft, CommitGiven, RoundGiven, FoldGiven}
-
-pub number_least : (r : Refusal) → 1 ≤ number r
-number_least Long = omega arith
-number_least Text = omega arith
-number_least Degree = omega arith
-number_least Depth = omega arith
-number_least Modulus = omega arith
-number_least Bound = omega arith
-number_least Size = omega arith
-number_least Residue = omega arith
-number_least Tall = omega arith
-number_least Challenge = omega arith
-number_least Turn = omega arith
-number_least Twin = omega arith
-number_least Branch = omega arith
-number_least Growth = omega arith
-number_least Slack = omega arith
-number_least Code.Rows = omega arith
+pub use Rattle.ranges.proofs.Numbers.{number_least}
 
 pub first_row : (S : Settings) → settings_refusal S ≡ 0 → 0 < S.rows
 first_row S z = omega (arith, (settings-valid S z).rows_least)

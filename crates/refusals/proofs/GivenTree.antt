@@ -32,24 +32,7 @@ use Rattle.protocol.proofs.Tests.{and_split, every_at}
 use Rattle.protocol.proofs.Inputs.{settings-valid, tested-below}
 use Rattle.protocol.proofs.Refusals.{front-joined, none-refused}
 use Rattle.protocol.proofs.Acceptance.{accepted_states}
-
-pub number_least : (r : Refusal) → 1 ≤ number r
-number_least Long = omega arith
-number_least Text = omega arith
-number_least Degree = omega arith
-number_least Depth = omega arith
-number_least Modulus = omega arith
-number_least Bound = omega arith
-number_least Size = omega arith
-number_least Residue = omega arith
-number_least Tall = omega arith
-number_least Challenge = omega arith
-number_least Turn = omega arith
-number_least Twin = omega arith
-number_least Branch = omega arith
-number_least Growth = omega arith
-number_least Slack = omega arith
-number_least Code.Rows = omega arith
+pub use Rattle.ranges.proofs.Numbers.{number_least}
 
 abbrev pub tree_sized : Settings → List ℕ → List ℕ → List ℕ → List ℤ → List ℤ → Bool
 tree_sized S key rounds E finals w =

@@ -20,7 +20,7 @@ use Rattle.protocol.specs.Answers.Verdict.{Silent}
 use Rattle.protocol.specs.Refusal.{number, refusal_of}
 use Rattle.verifier.specs.Records.{moved_with}
 use Rattle.verifier_refusals.specs.declared.Progress.{Progress}
-use Rattle.verifier_refusals.proofs.Numbers.{number_some}
+use Rattle.ranges.proofs.Numbers.{number_some}
 use Rattle.protocol.specs.Basic.{granted}
 use Rattle.protocol.specs.Layout.{item_cells}
 use Rattle.protocol.specs.Settings.{settings_refusal, has_length}

@@ -17,24 +17,7 @@ use Rattle.text_parts.proofs.Counted.{lengths-counted}
 use Rattle.text_parts.proofs.Exactly.{lengths-fit}
 use Rattle.table_writer.specs.Tables.{tables_refusal}
 use Rattle.protocol.specs.Refusal.{number}
-
-pub positive : (e : Refusal) → 0 < number e
-positive Long = omega arith
-positive Text = omega arith
-positive Degree = omega arith
-positive Depth = omega arith
-positive Modulus = omega arith
-positive Bound = omega arith
-positive Size = omega arith
-positive Residue = omega arith
-positive Tall = omega arith
-positive Challenge = omega arith
-positive Turn = omega arith
-positive Twin = omega arith
-positive Branch = omega arith
-positive Growth = omega arith
-positive Slack = omega arith
-positive Rows = omega arith
+pub use Rattle.ranges.proofs.Numbers.{number_least as positive}
 
 pub refused-by : (e : Refusal) (n : ℕ) (b : Bool) → number e ≡ unless (suc n) b → (number e ≡ suc n) × (b ≡ false)
 unfolding unless

@@ -7,15 +7,20 @@
 mod settings;
 
 ghost use Rattle.std.specs.Prelude.{◌≡◌, [], ◌∷◌};
-ghost use Rattle.text_parts.specs.Parts.{tables_of};
+ghost use Rattle.protocol.specs.Answers.{as_verdict, as_written};
 ghost use Rattle.protocol.specs.Basic.{first};
+ghost use Rattle.protocol.specs.Refusal.{number, refusal_of};
+ghost use Rattle.protocol.specs.Session.{verdict_number};
 ghost use Rattle.text_format.specs.Text.{look_refusal};
 ghost use Rattle.text_format.specs.Programs.{checked, verify_answer};
+ghost use Rattle.text_parts.specs.Lent.{tables_read, tables_lent, Kept};
 ghost use Rattle.text_calls.specs.Texts.{parts_of};
 ghost use Rattle.text_calls.specs.Promises.{Looked, ReadStored, WroteStored, Verdicts, ProvedStored};
 
 use crate::settings::SETTINGS;
-use protocol::{Parts, Residue, Settings, Verdict, Verified};
+use protocol::{Parts, Refusal, Settings, Verdict};
+use ranges::tests::require;
+use text_parts::{Tables, TablesMut};
 
 // One past the largest number that names parts, with a bit for each: `parts_count` of the definitions.
 const PARTS: u32 = 128;
@@ -36,29 +41,23 @@ fn parts_of(bits: u32) -> Parts
 }
 
 // A first look at a text's settings.
-pub fn look(text: &[u8], settings: &mut [u64]) -> u32
-    ensures { Looked text.now settings.old result settings.new }
+pub fn look(text: &[u8], settings: &mut [u64]) -> Result<(), Refusal>
+    ensures { Looked text.now settings.old (refusal_of result) settings.new }
 {
-    let loaded = text_lines::read_settings(text);
-    if loaded.refusal != 0 {
-        return loaded.refusal;
-    }
-    if settings.len() != SETTINGS {
-        return 7;
-    }
-    settings::store(loaded.settings, settings);
-    0
+    let found = text_lines::read_settings(text)?;
+    require(settings.len() == SETTINGS, Refusal::Size)?;
+    settings::store(found, settings);
+    Ok(())
 }
 
 // The refusal of a text for which slices are lent that have not their lengths.
-fn refused(text: &[u8]) -> u32
-    ensures { result ≡ first (look_refusal text.now ∷ 7 ∷ []) }
+fn refused(text: &[u8]) -> Refusal
+    ensures { number result ≡ first (look_refusal text.now ∷ 7 ∷ []) }
 {
-    let loaded = text_lines::read_settings(text);
-    if loaded.refusal != 0 {
-        return loaded.refusal;
+    match text_lines::read_settings(text) {
+        Ok(_) => Refusal::Size,
+        Err(refusal) => refusal,
     }
-    7
 }
 
 // The table reader.
@@ -66,96 +65,43 @@ pub fn read(
     parts: u32,
     text: &[u8],
     settings: &mut [u64],
-    key: &mut [Residue],
-    message: &mut [i32],
-    commitment: &mut [Residue],
-    rounds: &mut [Residue],
-    challenges: &mut [u32],
-    last: &mut [i32],
-    claims: &mut [Residue],
-) -> u32
-    ensures { ReadStored parts text.now settings.old
-        (tables_of key.old message.old commitment.old rounds.old challenges.old last.old claims.old) result
-        settings.new (tables_of key.new message.new commitment.new rounds.new challenges.new last.new claims.new) }
+    tables: &mut TablesMut<'_>,
+) -> Result<(), Refusal>
+    ensures kept { Kept tables.old tables.new }
+    ensures stored { ReadStored parts text.now settings.old (tables_lent tables.old) (refusal_of result) settings.new (tables_lent tables.new) }
 {
-    if !slices::both(settings.len() == SETTINGS, parts < PARTS) {
-        return refused(text);
+    let fits = (settings.len() == SETTINGS) & (parts < PARTS);
+    if !fits {
+        return Err(refused(text));
     }
-    let there = parts_of(parts);
-    let loaded = table_reader::read(
-        there, text, key, message, commitment, rounds, challenges, last, claims,
-    );
-    if loaded.refusal != 0 {
-        return loaded.refusal;
-    }
-    settings::store(loaded.settings, settings);
-    0
+    let found = table_reader::read(parts_of(parts), text, tables)?;
+    settings::store(found, settings);
+    Ok(())
 }
 
-// The table writer. The length of the text goes to `count`.
+// The table writer: the length of the text.
 pub fn write(
     settings: Settings,
     parts: u32,
-    key: &[Residue],
-    message: &[i32],
-    commitment: &[Residue],
-    rounds: &[Residue],
-    challenges: &[u32],
-    last: &[i32],
-    claims: &[Residue],
+    tables: &Tables<'_>,
     out: &mut [u8],
-    count: &mut usize,
-) -> u32
-    ensures { WroteStored settings parts
-        (tables_of key.now message.now commitment.now rounds.now challenges.now last.now claims.now)
-        out.old result out.new count.new }
+) -> Result<usize, Refusal>
+    ensures { WroteStored settings parts (tables_read tables.now) out.old (refusal_of result) out.new (as_written result).count }
 {
-    let refusal = slices::refusal(settings, parts < PARTS);
-    if refusal != 0 {
-        *count = 0;
-        return refusal;
-    }
-    let there = parts_of(parts);
-    let written = table_writer::write(
-        settings, there, key, message, commitment, rounds, challenges, last, claims, out,
-    );
-    *count = written.count;
-    written.refusal
-}
-
-// An answer of `verify` as a number and a verdict.
-fn verdict_of(verified: Verified, verdict: &mut u32) -> u32
-    ensures { Verdicts (checked verified) result verdict.new }
-{
-    match verified {
-        Verified::Accepted => {
-            *verdict = slices::verdict_number(Verdict::Accepted);
-            0
-        }
-        Verified::Rejected => {
-            *verdict = slices::verdict_number(Verdict::Rejected);
-            0
-        }
-        Verified::Refused(refusal) => {
-            *verdict = slices::verdict_number(Verdict::Silent);
-            refusal
-        }
-    }
+    slices::refusal(settings, parts < PARTS)?;
+    table_writer::write(settings, parts_of(parts), tables, out)
 }
 
 // The program `verify` as a call on text.
-pub fn verify(text: &[u8], verdict: &mut u32) -> u32
-    ensures { Verdicts (checked (verify_answer text.now)) result verdict.new }
+pub fn verify(text: &[u8]) -> Result<Verdict, Refusal>
+    ensures { Verdicts (checked (verify_answer text.now)) (refusal_of result) (verdict_number (as_verdict result)) }
 {
-    let verified = verify_text::verify(text);
-    verdict_of(verified, verdict)
+    verify_text::verify(text)
 }
 
-// The program `prove` as a call on text. The length of what it writes goes to `count`.
-pub fn prove(text: &[u8], out: &mut [u8], count: &mut usize) -> u32
-    ensures { ProvedStored text.now out.old result out.new count.new }
+// The program `prove` as a call on text: the length of what it writes.
+pub fn prove(text: &[u8], out: &mut [u8]) -> Result<usize, Refusal>
+    ensures { ProvedStored text.now out.old (refusal_of result) out.new (as_written result).count }
 {
-    let written = prove_text::prove(text, out);
-    *count = written.count;
-    written.refusal
+    prove_text::prove(text, out)
 }

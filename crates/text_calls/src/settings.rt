@@ -12,9 +12,9 @@ pub fn store(s: Settings, out: &mut [u64])
     requires { length out.old ≡ settings_width }
     ensures { out.new ≡ settings_numbers s }
 {
-    out[0] = slices::wide(s.degree);
-    out[1] = slices::wide(s.depth);
+    out[0] = u64::from(s.degree);
+    out[1] = u64::from(s.depth);
     out[2] = s.modulus;
-    out[3] = slices::wide(s.bound);
-    out[4] = slices::wide(s.rows);
+    out[3] = u64::from(s.bound);
+    out[4] = u64::from(s.rows);
 }

@@ -35,6 +35,7 @@ use Rattle.text_lines.proofs.Rows.{all_turns}
 use Rattle.text_lines.proofs.Values.{behind-names, names_long, settings-named, settings-unnamed}
 use Rattle.text_parts.proofs.Cells.{spots-count}
 use Rattle.text_lines.proofs.Follow.{same_spots-self, lines_before, values-lines, values-elsewhere}
+pub use Rattle.ranges.proofs.Numbers.{number_some as numbered}
 
 -- ---- the lines of a text
 
@@ -190,24 +191,6 @@ module _ (text : List ℕ) (vs : List ℤ) (rest : List ℕ) (h : Settled text v
 -- ---- answers
 
 -- every refusal has a number
-pub numbered : (r : Refusal) → number r ≡ 0 → ⊥
-numbered Long e = absurd (omega (arith, e))
-numbered Text e = absurd (omega (arith, e))
-numbered Degree e = absurd (omega (arith, e))
-numbered Depth e = absurd (omega (arith, e))
-numbered Modulus e = absurd (omega (arith, e))
-numbered Bound e = absurd (omega (arith, e))
-numbered Size e = absurd (omega (arith, e))
-numbered Residue e = absurd (omega (arith, e))
-numbered Tall e = absurd (omega (arith, e))
-numbered Challenge e = absurd (omega (arith, e))
-numbered Turn e = absurd (omega (arith, e))
-numbered Twin e = absurd (omega (arith, e))
-numbered Branch e = absurd (omega (arith, e))
-numbered Growth e = absurd (omega (arith, e))
-numbered Slack e = absurd (omega (arith, e))
-numbered Rows e = absurd (omega (arith, e))
-
 module _ (text : List ℕ) where
   pub look_long : text_limit < length text → look_refusal text ≡ 1
   unfolding look_refusal

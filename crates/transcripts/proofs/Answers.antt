@@ -25,7 +25,7 @@ use Rattle.protocol.proofs.Tests.{and_split, granted-zero, granted_refused}
 use Rattle.protocol.proofs.Inputs.{settings-valid, tested-below}
 use Rattle.protocol.proofs.Refusals.{none-refused}
 use Rattle.sizes.proofs.Limits.{degree_most}
-use Rattle.verifier_refusals.proofs.Numbers.{number_some}
+use Rattle.ranges.proofs.Numbers.{number_some}
 use Rattle.transcripts.specs.Given.{TranscriptGiven}
 
 -- a result with a refusal has its number

@@ -12,7 +12,7 @@ use Rattle.session_records.specs.Records.{record_width, claims_at, record_stored
 use Rattle.session_records.proofs.Stored.{stored-over}
 use Rattle.verifier.specs.Records.{started_with}
 use Rattle.verifier_refusals.specs.Lent.{record_of, lent_rows}
-use Rattle.verifier_refusals.proofs.Numbers.{number_some}
+use Rattle.ranges.proofs.Numbers.{number_some}
 use Rattle.sessions.proofs.Claims.{lent_long, written_long, written-claims, flat_lent, flat-values}
 use Rattle.sessions.proofs.Answers.{start-refused, start_made}
 use Rattle.sessions.proofs.start.Goals as goal

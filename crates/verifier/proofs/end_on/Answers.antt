@@ -3,7 +3,7 @@ use Rattle.protocol.specs.Answers.{said}
 use Rattle.protocol.specs.Basic.{choose}
 use Rattle.protocol.specs.Session.{verdict, session_end_holds}
 use Rattle.sizes.proofs.Limits.{allowed_depth}
-use Rattle.verifier_refusals.proofs.Numbers.{number_some}
+use Rattle.ranges.proofs.Numbers.{number_some}
 use Rattle.verifier.proofs.Answers.{end_given, end_refused, end-said}
 use Rattle.verifier.proofs.end_on.Goals as goal
 use Rattle.verifier.proofs.end_on.Goals.{then-met, else-met}

@@ -1,7 +1,7 @@
 use Rattle.std.proofs.Common.{◌∙◌, sym, arith}
 use Rattle.protocol.specs.Session.{part, session_round_holds}
 use Rattle.protocol.proofs.Inputs.{settings-valid}
-use Rattle.verifier_refusals.proofs.Numbers.{number_some}
+use Rattle.ranges.proofs.Numbers.{number_some}
 use Rattle.verifier.proofs.Answers.{round_passed, round_refused, round_rejected, round_counted}
 use Rattle.verifier.proofs.round_on.Goals as goal
 

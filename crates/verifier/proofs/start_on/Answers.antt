@@ -1,7 +1,7 @@
 use Rattle.std.proofs.Common.{◌∙◌, ap, sym}
 use Rattle.protocol.specs.Element.{zeros}
 use Rattle.verifier_refusals.specs.Lent.{record_of, lent_rows}
-use Rattle.verifier_refusals.proofs.Numbers.{number_some}
+use Rattle.ranges.proofs.Numbers.{number_some}
 use Rattle.verifier.proofs.Answers.{start-allowed, start-refused, start-done}
 use Rattle.verifier.proofs.start_on.Goals as goal
 
