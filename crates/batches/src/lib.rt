@@ -116,7 +116,7 @@ fn send_batch(sums: bool, level: u32, d: usize, n: usize, from: usize, f: &[i32]
     transform::send(level, x);
 }
 
-// All of them, one behind the other.
+// All of them, one behind the other. Each batch is lent by its place: what chunks hold when they were lent one after the other is not known to a proof.
 fn send_batches(sums: bool, level: u32, d: usize, n: usize, f: &[i32], x: &mut [u16])
     requires { (n ≤ 256) × (d ≤ width) × (size_of sums d n ≤ length f.now) × (n * d ≤ length x.old) }
     ensures { Provided (Suits 12289 d n level × MessageGiven sums d n f.now × Below 49156 x.old)

@@ -81,7 +81,8 @@ pub fn add_product(d: u32, f: &[i32], g: &[Residue], sums: &mut [u64])
     add_columns(n, f, g, sums);
 }
 
-// The four sums are locals, so that they stay in registers over all elements; degree and columns stand here as numbers, so that the compiler unrolls them.
+// The four sums are locals, so that they stay in registers over all elements; degree and columns stand here as numbers, so that the compiler unrolls them. An element
+// is the rest of its table from its place on, as the definition has it, so the loop counts the places.
 fn add_elements(n: u32, f: &[i32], g: &[Residue], sums: &mut [u64])
     requires { Tables n (length f.now) (length g.now) (length sums.old) }
     ensures { sums.new ≡ add_table f.now g.now n sums.old }

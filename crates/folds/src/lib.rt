@@ -62,7 +62,7 @@ fn add_row<T: Entry, S: Sum<T>>(
     }
 }
 
-// The same of n numbers that stand `step` apart.
+// The same of n numbers that stand `step` apart: in one slice with those that are read, so the loop counts.
 fn add_line<T: Entry, S: Sum<T>>(
     by: S,
     negative: bool,
