@@ -1,4 +1,4 @@
-use Rattle.std.proofs.Common.{◌≡◌, ap, ◌∙◌, ◌*◌, ◌/◌, ◌%◌, ◌^◌, pos, get_or, ℤ, SFits, to_z, of_z, to_z-of_z, w32, w64, arith, rules}
+use Rattle.std.proofs.Common.{◌≡◌, ap, ◌∙◌, ◌/◌, ◌%◌, ◌^◌, pos, get_or, ℤ, SFits, to_z, of_z, to_z-of_z, w32, w64, arith, rules}
 use Rattle.protocol.specs.Element.{modulo}
 use Rattle.ranges.proofs.Magnitude.{through-bits}
 use Rattle.residues.proofs.Fill.{filled_none, filled-turn, filled-end}
