@@ -1,0 +1,8 @@
+-- The loop keeps: the first k places agree.
+use Rattle.std.proofs.Common.{◌≡◌, true}
+use Rattle.protocol.specs.Basic.{every}
+use Rattle.judge.proofs.Places.{same}
+use Rattle.judge.proofs.combination.opens.Given as goal
+
+abbrev pub invariant-loop-k : goal.invariant-loop-k
+invariant-loop-k l = every l.k (same l.q l.c l.commitment l.sums) ≡ true
