@@ -12,19 +12,16 @@ ghost use Rattle.claim_tables.specs.Claims.{claimed, item_claim, items_most, Giv
 
 use protocol::{ROWS, Residue, SLOTS, Settings, WIDTH};
 use ranges::tests::DEPTH_MOST;
-use residues::elements;
 
 // The room for the claims of every transcript: `claims_room` of the definitions.
 pub const ROOM: usize = ROWS * SLOTS * WIDTH;
 
 // How many claims there are.
+#[tactic(auto, using(sizes::proofs::Limits::allowed_depth, sizes::proofs::Limits::allowed_rows))]
 fn items(settings: Settings) -> u32
-    ensures { Provided (settings_refusal settings ≡ 0) (result ≡ claim_items settings) × (result ≤ items_most) }
+    ensures { Provided (settings_refusal settings ≡ 0) (result ≡ claim_items settings) × (result ≤ claim_items settings) × (result ≤ items_most) }
 {
-    if settings.depth > DEPTH_MOST {
-        return 0;
-    }
-    if (settings.rows as usize) > ROWS {
+    if settings.depth > DEPTH_MOST || (settings.rows as usize) > ROWS {
         return 0;
     }
     settings.rows * settings.depth
@@ -43,7 +40,7 @@ fn claim_of(settings: Settings, i: u32, rounds: &[Residue], challenges: &[u32]) 
     let t = i / rows;
     let row = (i % rows) as usize;
     let start = equations::rounds::row_start(settings, rounds.len(), row);
-    let e = elements::entry(challenges, t as usize);
+    let e = challenges.get(t as usize).copied().unwrap_or(0);
     equations::rounds::next_claim(settings, t, e, &rounds[start..], &mut claim);
     claim
 }
@@ -67,21 +64,10 @@ fn same(n: usize, row: &[Residue], at: usize, table: &[Residue]) -> bool
     ensures { Provided ((n ≤ length row.now) × (at + n ≤ length table.now))
         (result ≡ every n (λ k. eqb (get_or table.now (at + k) 0) (get_or row.now k 0))) }
 {
-    if row.len() < n {
+    if row.len() < n || table.len() < n || table.len() - n < at {
         return false;
     }
-    if table.len() < n {
-        return false;
-    }
-    if table.len() - n < at {
-        return false;
-    }
-    for k in 0..n {
-        if table[at + k] != row[k] {
-            return false;
-        }
-    }
-    true
+    table[at..at + n] == row[..n]
 }
 
 // Is the claim that is written for item i the one that its round gives.
@@ -92,7 +78,8 @@ fn item_written(
     challenges: &[u32],
     claims: &[Residue],
 ) -> bool
-    ensures { Provided (Given settings rounds.now × (i < claim_items settings) × (length claims.now ≡ claim_cells settings))
+    requires { i < claim_items settings }
+    ensures { Provided (Given settings rounds.now × (length claims.now ≡ claim_cells settings))
         (result ≡ claim_written settings (claimed rounds.now challenges.now) claims.now (i / settings.rows) (i % settings.rows)) }
 {
     let d = settings.degree as usize;
@@ -112,10 +99,5 @@ pub fn written(
         (result ≡ claims_written settings (claimed rounds.now challenges.now) claims.now)) }
 {
     let total = items(settings);
-    for i in 0..total {
-        if !item_written(settings, i, rounds, challenges, claims) {
-            return false;
-        }
-    }
-    true
+    (0..total).all(|i| item_written(settings, i, rounds, challenges, claims))
 }

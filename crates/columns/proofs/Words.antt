@@ -21,21 +21,26 @@ pub word-own : (s : ℕ) → s < 2 ^ 64 → s ≡ word (pos s)
 unfolding modulo
 word-own s l = sym (Nat.mod-eq_of_lt l)
 
-pub word-sub : (r s p : ℕ) (z : ℤ) → r < 2 ^ 64 → p ≡ word z → (r + p) % 2 ^ 64 ≡ s → r ≡ word (pos s +ℤ neg_ℤ z)
-word-sub r s p z l e h =
-    word-own r l
+-- what is taken away, as `wrapping_sub` takes it
+pub word-sub : (s p : ℕ) (z : ℤ) → s < 2 ^ 64 → p < 2 ^ 64 → p ≡ word z → (s + (2 ^ 64 - p)) % 2 ^ 64 ≡ word (pos s +ℤ neg_ℤ z)
+word-sub s p z fits l e =
+    let r = (s + (2 ^ 64 - p)) % 2 ^ 64 in
+    word-own r (Nat.mod-lt _ (omega arith))
     ∙ ap word (sym (undo (pos r) z))
     ∙ sym (modulo_again (2 ^ 64) (omega arith) (pos r +ℤ z) (neg_ℤ z))
-    ∙ ap (λ x. word (pos x +ℤ neg_ℤ z)) (sym (word-add r p z e) ∙ h)
+    ∙ ap (λ x. word (pos x +ℤ neg_ℤ z)) (sym (word-add r p z e) ∙ back)
+  where
+    back : ((s + (2 ^ 64 - p)) % 2 ^ 64 + p) % 2 ^ 64 ≡ s
+    back = omega arith
 
 -- one term more
 pub word_more : (s r : ℕ) (x t : ℤ) → s ≡ word x → r ≡ word (pos s +ℤ t) → r ≡ word (x +ℤ t)
 word_more s r x t e h = h ∙ ap (λ n. word (pos n +ℤ t)) e ∙ modulo_again (2 ^ 64) (omega arith) x t
 
 -- a product with a sign
-pub word-product : (r a y : ℕ) (c : ℤ) → r < 2 ^ 64 → y < 2 ^ 32 → (r + 2147483648 * y) % 2 ^ 64 ≡ a * y → pos a ≡ c +ℤ pos 2147483648 → r ≡ word (c *ℤ pos y)
-word-product r a y c l small h e =
-    word-sub r (a * y) (2147483648 * y) (pos (2147483648 * y)) l (word-own _ (omega arith)) h
+pub word-product : (a y : ℕ) (c : ℤ) → a * y < 2 ^ 64 → y < 2 ^ 32 → pos a ≡ c +ℤ pos 2147483648 → (a * y + (2 ^ 64 - 2147483648 * y)) % 2 ^ 64 ≡ word (c *ℤ pos y)
+word-product a y c fits small e =
+    word-sub (a * y) (2147483648 * y) (pos (2147483648 * y)) fits (omega arith) (word-own _ (omega arith))
     ∙ ap (λ z. word (z +ℤ neg_ℤ (pos (2147483648 * y)))) spread
     ∙ ap word (undo (c *ℤ pos y) (pos (2147483648 * y)))
   where

@@ -13,7 +13,7 @@ use protocol::{Residue, WIDTH};
 fn raised(c: i32) -> u64
     ensures { (pos result ≡ c +ℤ pos 2147483648) × (result < 4294967296) }
 {
-    ((c as i64) + 2147483648) as u64
+    (i64::from(c) + 2147483648) as u64
 }
 
 // c·y modulo 2^64, y being below 2^32: what is too much is taken away again, so that no product has a sign.
@@ -22,7 +22,7 @@ fn signed_product(c: i32, y: Residue) -> u64
 {
     let low = y % 4294967296;
     let more = raised(c) * low;
-    std::num::wrapping_sub_u64(more, 2147483648 * low)
+    more.wrapping_sub(2147483648 * low)
 }
 
 // Adds what coefficient j of f has in coefficient k of the product: past X^d the sign changes.
@@ -32,10 +32,10 @@ fn add_term(d: usize, j: usize, k: usize, f: &[i32], g: &[Residue], s: u64) -> u
 {
     if j <= k {
         let p = signed_product(f[j], g[k - j]);
-        return std::num::wrapping_add_u64(s, p);
+        return s.wrapping_add(p);
     }
     let p = signed_product(f[j], g[k + d - j]);
-    std::num::wrapping_sub_u64(s, p)
+    s.wrapping_sub(p)
 }
 
 // Adds coefficient k of the product.
@@ -54,8 +54,9 @@ fn add_columns(d: usize, f: &[i32], g: &[Residue], sums: &mut [u64])
     requires { Columns d (length f.now) (length g.now) (length sums.old) }
     ensures { sums.new ≡ add_columns d f.now g.now sums.old }
 {
-    for k in 0..d {
-        sums[k] = column(d, k, f, g, sums[k]);
+    let front = &mut sums[..d];
+    for (k, s) in front.iter_mut().enumerate() {
+        *s = column(d, k, f, g, *s);
     }
 }
 

@@ -3,7 +3,7 @@ use Rattle.std.proofs.Common.{◌≡◌, ℕ, ◌+◌, ◌-◌, ◌*◌, ◌/◌
 use native.Mathlib.Nat as Nat
 use Rattle.protocol.specs.declared.Settings.{Settings}
 use Rattle.protocol.specs.Basic.{sum}
-use Rattle.protocol.specs.Element.{Element, width, modulo, around, rotate, reduced, padded, residue_at}
+use Rattle.protocol.specs.Element.{Element, modulo, around, rotate, reduced, padded, residue_at}
 use Rattle.residues.proofs.Padding.{padded_at}
 use Rattle.joins.specs.Sums.{room, Halves, Stand}
 use Rattle.joins.proofs.Joining.{halves-lower}

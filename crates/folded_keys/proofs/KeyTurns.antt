@@ -1,6 +1,6 @@
 -- Folds by all challenges are one sum of rotated elements, over any table: of whole numbers as they are, or modulo q.
 -- What is compared is v of a number; v is any reading that sums and signs respect.
-use Rattle.std.proofs.Common.{◌≡◌, ℕ, zero, suc, ◌+◌, ◌-◌, ◌*◌, ◌/◌, ◌%◌, ◌^◌, ◌<◌, ◌≤◌, List, get_or, ℤ, pos, ◌+ℤ◌, neg_ℤ, sym, refl, ap, ◌∙◌, ap₂, arith}
+use Rattle.std.proofs.Common.{◌≡◌, ℕ, zero, suc, ◌+◌, ◌-◌, ◌*◌, ◌/◌, ◌%◌, ◌^◌, ◌<◌, List, get_or, ℤ, pos, ◌+ℤ◌, neg_ℤ, sym, refl, ap, ◌∙◌, ap₂, arith}
 use native.Mathlib.Nat as Nat
 use lib.IntN.{+ℤ_idl, +ℤ_idr, +ℤ_assoc, +ℤ_comm, neg_ℤ-+ℤ}
 use Rattle.protocol.specs.declared.Settings.{Settings}
@@ -8,7 +8,7 @@ use Rattle.protocol.specs.Basic.{sum}
 use Rattle.protocol.specs.Element.{Element, modulo, flips, around, rotate, residue_at}
 use Rattle.protocol.specs.Opening.{fold_residues, fold_key, key_after}
 use Rattle.protocol.proofs.SumLaws.{sum-split}
-use Rattle.protocol.proofs.Modulo.{modulo-lt, modulo_add, modulo_neg, modulo_again}
+use Rattle.protocol.proofs.Modulo.{modulo_add, modulo_neg, modulo_again}
 use Rattle.protocol.proofs.Reading.{flat-front}
 use Rattle.protocol.proofs.Rotation.{rotate-plus}
 use Rattle.residues.proofs.Around.{rotate-rotate}

@@ -1,5 +1,5 @@
 -- The sum of a key's rotated elements, element after element, and that it is the first element of the folded key.
-use Rattle.std.proofs.Common.{◌≡◌, ℕ, zero, suc, ◌+◌, ◌-◌, ◌*◌, ◌%◌, ◌^◌, ◌<◌, ◌≤◌, List, length, get_or, pos, ◌+ℤ◌, sym, refl, ap, ◌∙◌, subst, add-one, arith}
+use Rattle.std.proofs.Common.{◌≡◌, ℕ, zero, suc, ◌+◌, ◌-◌, ◌*◌, ◌%◌, ◌^◌, ◌<◌, ◌≤◌, List, length, get_or, pos, ◌+ℤ◌, sym, ap, ◌∙◌, subst, add-one, arith}
 use native.Mathlib.Nat as Nat
 use native.Mathlib.Decide.{dec_lt}
 use Rattle.protocol.specs.declared.Settings.{Settings}
@@ -8,7 +8,6 @@ use Rattle.protocol.specs.Element.{modulo, rotate, residue, residue_at}
 use Rattle.protocol.specs.Layout.{exponent_count}
 use Rattle.protocol.specs.Opening.{key_after}
 use Rattle.protocol.proofs.Modulo.{modulo-lt, modulo_again}
-use Rattle.rotations.specs.Values.{Turnable}
 use Rattle.residues.specs.Lists.{spliced}
 use Rattle.rotations.specs.Values.{plus_turned}
 use Rattle.residues.proofs.Around.{rotate-mod}
@@ -17,7 +16,7 @@ use Rattle.residues.proofs.Splice.{spliced-before, spliced-inside}
 use Rattle.protocol.proofs.Agreement.{Alike, sum-ext, rotate_same}
 use Rattle.protocol.proofs.Ranges.{key_residues, below-everywhere}
 use Rattle.folded_keys.specs.Given.{KeyGiven}
-use Rattle.folded_keys.specs.Turns.{turn, at_bit, turned_sum, OnCircle, Turned, ElementRead, ElementThere, Added, Summable, Summed}
+use Rattle.folded_keys.specs.Turns.{turn, at_bit, turned_sum, OnCircle, Turned, Turning, ElementRead, Added, Summable, Summed}
 use Rattle.equations.proofs.Polynomials.{part, part-residues}
 use Rattle.equations.proofs.Ready.{ready}
 use Rattle.folded_keys.proofs.KeyTurns.{turn_first, turn_second, key-turns}
@@ -60,15 +59,13 @@ module _ (S : Settings) where
 
   -- ---- one element
 
-  module _ (i : ℕ) (key sums : List ℕ) (g : ElementRead S i key sums) where
-    pub turnable : Turnable q d (part (i * d) key) sums
-    turnable = record {
+  module _ (m i : ℕ) (key sums : List ℕ) (g : ElementRead S m i key sums) where
+    pub turning : Turning S m (part (i * d) key) sums
+    turning = record {
       degree = omega (arith, (ready S g.allowed).degree_least);
       degree_most = (ready S g.allowed).degree_most;
-      summands = record {
-        added = part-residues q (i * d) d key g.inside (λ j _. g.key_below j);
-        own = record { long = omega (arith, g.room); each = λ k l. subst (λ x. get_or sums x 0 < q) (sym (Nat.zero-add k)) (g.own k l) };
-      };
+      added = part-residues q (i * d) d key g.inside (λ j _. g.key_below j);
+      own = record { long = omega (arith, g.room); each = λ k l. subst (λ x. get_or sums x 0 < m) (sym (Nat.zero-add k)) (g.own k l) };
     }
 
   -- sums modulo m, to which an element was added
@@ -94,9 +91,6 @@ module _ (S : Settings) where
     one_inside : (i : ℕ) → i < n → i * d + d ≤ length key
     one_inside i l = let one_more : i + 1 ≤ n = omega arith in omega (arith, g.inside, Nat.mul-le-mul_right d one_more, Nat.add-mul i 1 d, Nat.one-mul d)
 
-    pub element_there : (i : ℕ) → i < n → (sums : List ℕ) → length sums ≡ length sums₀ → ElementThere S i (length key) (length sums)
-    element_there i l sums long = record { allowed = g.allowed; inside = one_inside i l; room = omega (arith, g.room) }
-
     pub summed_more : (m i : ℕ) → 0 < m → (sums : List ℕ) → Summed m S key x i sums → (sums' : List ℕ) → Added m S key x i sums sums' → Summed m S key x (i + 1) sums'
     unfolding sum
     summed_more m i pm sums s sums' a k b =
@@ -105,14 +99,14 @@ module _ (S : Settings) where
         ∙ modulo_again m pm (sum i (λ j. rotate d (get_or x j 0) (residue_at d key j) k)) (rotate d (get_or x i 0) (residue_at d key i) k)
         ∙ ap (λ n. modulo m (sum n (λ j. rotate d (get_or x j 0) (residue_at d key j) k))) (sym (add-one i))
 
-    module _ (i : ℕ) (l : i < n) (sums : List ℕ) (long : length sums ≡ length sums₀) (s : Summed q S key x i sums) where
-      pub element-read : ElementRead S i key sums
+    module _ (m : ℕ) (pm : 0 < m) (i : ℕ) (l : i < n) (sums : List ℕ) (long : length sums ≡ length sums₀) (s : Summed m S key x i sums) where
+      pub element-read : ElementRead S m i key sums
       element-read = record {
         allowed = g.allowed;
         inside = one_inside i l;
         key_below = g.key_below;
         room = omega (arith, g.room);
-        own = λ k b. subst (λ y. y < q) (sym (s k b)) (modulo-lt q (omega (arith, (ready S g.allowed).modulus_least)) _);
+        own = λ k b. subst (λ y. y < m) (sym (s k b)) (modulo-lt m pm _);
       }
 
   -- ---- the folded key

@@ -1,21 +1,23 @@
 // The key folded by all challenges, as one sum of rotated elements (the law is key-turns of proofs/KeyTurns), and the end of a transcript by it.
 #![tactic(auto)]
 
-ghost use Rattle.std.specs.Prelude.{◌≡◌, ◌+◌, ◌%◌, ◌^◌, ◌<◌, ◌≤◌, length, slice_index};
+ghost use Rattle.std.specs.Prelude.{◌≡◌, ℕ, ◌+◌, ◌%◌, ◌^◌, ◌<◌, ◌≤◌, length, slice_index};
+ghost use Rattle.protocol.specs.declared.Settings.{Settings};
 ghost use Rattle.protocol.specs.Basic.{Provided};
 ghost use Rattle.protocol.specs.Element.{signed};
+ghost use Rattle.std.proofs.Common.{rules};
 ghost use Rattle.protocol.specs.Layout.{width, exponent_count};
 ghost use Rattle.protocol.specs.Opening.{key_after};
 ghost use Rattle.protocol.specs.Nodes.{Alike};
 ghost use Rattle.protocol.specs.Transcript.{end_met, folded_key};
 ghost use Rattle.residues.specs.Lists.{spliced};
 ghost use Rattle.residues.specs.Residues.{BothBelow};
+ghost use Rattle.rotations.specs.Values.{plus_turned};
 ghost use Rattle.folded_keys.specs.Given.{KeyGiven, EndGiven};
-ghost use Rattle.folded_keys.specs.Turns.{OnCircle, Turned, ElementRead, ElementThere, Added, Summable, Summed};
+ghost use Rattle.folded_keys.specs.Turns.{OnCircle, Turned, Turning, ElementRead, Added, Summable, Summed};
 
 use protocol::{Residue, Settings, WIDTH};
 use ranges::tests::DEPTH_MOST;
-use residues::elements;
 
 // Room for the exponents of the largest key's elements, 2^8.
 const ELEMENTS: usize = 256;
@@ -24,9 +26,9 @@ const ELEMENTS: usize = 256;
 fn around(c: u32, y: u32, e: u32) -> u32
     ensures { Provided (BothBelow c y e) (result ≡ (y + e) % c) }
 {
-    let rest = std::num::wrapping_sub_u32(c, e);
+    let rest = c.wrapping_sub(e);
     if y < rest {
-        return std::num::wrapping_add_u32(y, e);
+        return y.wrapping_add(e);
     }
     y - rest
 }
@@ -51,59 +53,72 @@ fn turns(settings: Settings, challenges: &[u32], x: &mut [u32]) -> u32
     let c = 2 * settings.degree;
     let depth = settings.depth;
     let mut m: u32 = 1;
-    let mut s: u32 = 0;
-    while s < depth {
+    for s in 0..depth {
         let e = challenges[(depth - 1 - s) as usize] % c;
         second_half(c, m as usize, e, x);
         m = m + m;
-        s += 1;
     }
     m
 }
 
+// How turned elements are added up.
+trait Adding {
+    // what the sums are taken modulo
+    ghost modulus: { Settings → ℕ };
+
+    // Adds X^e times the element with which a part of a key begins.
+    fn add(settings: Settings, e: u32, part: &[Residue], sums: &mut [u64])
+        ensures { Provided (Turning settings (modulus settings) part.now sums.old)
+            (sums.new ≡ spliced (plus_turned (modulus settings) settings.degree e part.now 0 sums.old) 0 settings.degree sums.old) };
+
+    ghost positive: { (S : Settings) → 0 < S.modulus → 0 < modulus S };
+}
+
+// Modulo q, at each element.
+struct Reduced;
+
+impl Adding for Reduced {
+    ghost modulus = { λ S. S.modulus };
+
+    ghost positive = { λ S h. h };
+
+    fn add(settings: Settings, e: u32, part: &[Residue], sums: &mut [u64]) {
+        rotations::add_turned(settings.modulus, settings.degree, e, part, sums);
+    }
+}
+
+// Modulo 2^64: the sums are reduced once all elements are added.
+struct Gathered;
+
+impl Adding for Gathered {
+    ghost modulus = { λ S. 2 ^ 64 };
+
+    ghost positive = { λ S h. Prim.search rules };
+
+    fn add(settings: Settings, e: u32, part: &[Residue], sums: &mut [u64]) {
+        rotations::gather_turned(settings.degree, e, part, sums);
+    }
+}
+
 // Adds element i of a key, turned by its exponent.
-fn add_element(settings: Settings, i: u32, key: &[Residue], x: &[u32], sum: &mut [Residue])
-    ensures { Provided (ElementRead settings i key.now sum.old) (Added settings.modulus settings key.now x.now i sum.old sum.new) }
+fn add_element<A: Adding>(settings: Settings, i: u32, key: &[Residue], x: &[u32], sums: &mut [u64])
+    ensures { Provided (ElementRead settings (A.modulus settings) i key.now sums.old)
+        (Added (A.modulus settings) settings key.now x.now i sums.old sums.new) }
 {
     let at = (i as usize) * (settings.degree as usize);
     if key.len() < at {
         return;
     }
-    let e = elements::entry(x, i as usize);
-    rotations::add_turned(settings.modulus, settings.degree, e, &key[at..], sum);
+    let e = x.get(i as usize).copied().unwrap_or(0);
+    A::add(settings, e, &key[at..], sums);
 }
 
 // Adds up the first n elements of a key, each turned by its exponent.
-fn add_elements(settings: Settings, n: u32, key: &[Residue], x: &[u32], sum: &mut [Residue])
-    ensures { Provided (Summable settings n key.now sum.old) (Summed settings.modulus settings key.now x.now n sum.new) }
+fn add_elements<A: Adding>(settings: Settings, n: u32, key: &[Residue], x: &[u32], sums: &mut [u64])
+    ensures { Provided (Summable settings n key.now sums.old) (Summed (A.modulus settings) settings key.now x.now n sums.new) }
 {
-    let mut i: u32 = 0;
-    while i < n {
-        add_element(settings, i, key, x, sum);
-        i += 1;
-    }
-}
-
-// The same with sums modulo 2^64, which are reduced once all elements are added.
-fn gather_element(settings: Settings, i: u32, key: &[Residue], x: &[u32], sums: &mut [u64])
-    ensures { Provided (ElementThere settings i (length key.now) (length sums.old))
-        (Added (2 ^ 64) settings key.now x.now i sums.old sums.new) }
-{
-    let at = (i as usize) * (settings.degree as usize);
-    if key.len() < at {
-        return;
-    }
-    let e = elements::entry(x, i as usize);
-    rotations::gather_turned(settings.degree, e, &key[at..], sums);
-}
-
-fn gather_elements(settings: Settings, n: u32, key: &[Residue], x: &[u32], sums: &mut [u64])
-    ensures { Provided (Summable settings n key.now sums.old) (Summed (2 ^ 64) settings key.now x.now n sums.new) }
-{
-    let mut i: u32 = 0;
-    while i < n {
-        gather_element(settings, i, key, x, sums);
-        i += 1;
+    for i in 0..n {
+        add_element::<A>(settings, i, key, x, sums);
     }
 }
 
@@ -131,13 +146,13 @@ pub fn folded_key(settings: Settings, key: &[Residue], challenges: &[u32]) -> [R
     let mut x = [0u32; ELEMENTS];
     let n = turns(settings, challenges, &mut x);
     if settings.modulus <= GATHERED_MOST {
-        gather_elements(settings, n, key, &x, &mut sum);
+        add_elements::<Gathered>(settings, n, key, &x, &mut sum);
         // the number more, which nothing reads, lets `sum` begin at a multiple of sixteen bytes
         let none = [0u64; WIDTH + 1];
         let joint = joins::prepare(settings.modulus);
         return joins::elements::join_all(joint, settings.degree as usize, &sum, &none);
     }
-    add_elements(settings, n, key, &x, &mut sum);
+    add_elements::<Reduced>(settings, n, key, &x, &mut sum);
     sum
 }
 

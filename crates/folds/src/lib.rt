@@ -8,14 +8,14 @@ ghost use Rattle.protocol.specs.Element.{width};
 ghost use Rattle.protocol.specs.Opening.{fold_residues};
 ghost use Rattle.residues.specs.Lists.{spliced};
 ghost use Rattle.residues.specs.Places.{Line, Grid, Disjoint, Apart, Added};
-ghost use Rattle.residues.specs.Residues.{BothBelow};
-ghost use Rattle.folds.specs.Folds.{Halves, Foldable, half_most, signed_sum, fold_down, fold_halves};
+ghost use Rattle.folds.specs.Folds.{Halves, Foldable, half_most, fold_down, fold_halves};
 
 use protocol::{Residue, WIDTH};
-use residues::ROWS_FROM;
+use residues::sums::{Modulo, Sum};
+use residues::{Entry, ROWS_FROM};
 
 // The most elements of a half: `half_most` of the definitions.
-const HALF_MOST: u32 = 128;
+pub const HALF_MOST: u32 = 128;
 
 // The n numbers from a place on, moved down to another place of the same table.
 fn move_down(n: usize, from: usize, to: usize, t: &mut [Residue])
@@ -25,66 +25,69 @@ fn move_down(n: usize, from: usize, to: usize, t: &mut [Residue])
     if to == from {
         return;
     }
-    for k in 0..n {
-        let y = t[from + k];
-        t[to + k] = y;
-    }
+    t.copy_within(from..from + n, to);
 }
 
-// Adds the number that stands `place` places behind `from` to the one that stands as far behind `to`, or takes it away, modulo q.
-fn add_one(q: Residue, negative: bool, place: usize, from: usize, to: usize, t: &mut [Residue])
+// Adds the number that stands `place` places behind `from` to the one that stands as far behind `to`, or takes it away.
+fn add_one<T: Entry, S: Sum<T>>(
+    by: S,
+    negative: bool,
+    place: usize,
+    from: usize,
+    to: usize,
+    t: &mut [T],
+)
     requires { (from + place < length t.old) × (to + place < length t.old) }
-    ensures { Added 0 (BothBelow q) (signed_sum q negative) from to (λ y. y ≡ place) t.old t.new }
+    ensures { Added T.NONE (S.allowed by) (S.sum by negative) from to (λ y. y ≡ place) t.old t.new }
 {
-    let x = t[to + place];
-    let y = t[from + place];
-    t[to + place] = residues::signed_sum(q, negative, x, y);
+    t[to + place] = by.add(negative, t[to + place], t[from + place]);
 }
 
-// The same of n numbers in a row, the first `at` places behind: the compiler takes several of them at a time. They stand behind all that is written.
-fn add_row(
-    q: Residue,
+// The same of n numbers in a row, the first `at` places behind: the compiler takes several of them at a time. They stand behind all that is written, in one slice
+// with it, so the loop counts.
+fn add_row<T: Entry, S: Sum<T>>(
+    by: S,
     negative: bool,
     at: usize,
     n: usize,
     from: usize,
     to: usize,
-    t: &mut [Residue],
+    t: &mut [T],
 )
     requires { Apart (Line at 1 n) from to (length t.old) }
-    ensures { Added 0 (BothBelow q) (signed_sum q negative) from to (Line at 1 n) t.old t.new }
+    ensures { Added T.NONE (S.allowed by) (S.sum by negative) from to (Line at 1 n) t.old t.new }
 {
     for i in 0..n {
-        add_one(q, negative, at + i, from, to, t);
+        add_one(by, negative, at + i, from, to, t);
     }
 }
 
 // The same of n numbers that stand `step` apart.
-fn add_line(
-    q: Residue,
+fn add_line<T: Entry, S: Sum<T>>(
+    by: S,
     negative: bool,
     at: usize,
     step: usize,
     n: usize,
     from: usize,
     to: usize,
-    t: &mut [Residue],
+    t: &mut [T],
 )
     requires { (0 < step) × Apart (Line at step n) from to (length t.old) }
-    ensures { Added 0 (BothBelow q) (signed_sum q negative) from to (Line at step n) t.old t.new }
+    ensures { Added T.NONE (S.allowed by) (S.sum by negative) from to (Line at step n) t.old t.new }
 {
     if step == 1 {
-        add_row(q, negative, at, n, from, to, t);
+        add_row(by, negative, at, n, from, to, t);
         return;
     }
     for i in 0..n {
-        add_one(q, negative, at + i * step, from, to, t);
+        add_one(by, negative, at + i * step, from, to, t);
     }
 }
 
 // The same of m such lines, which begin `gap` apart.
-fn add_grid(
-    q: Residue,
+fn add_grid<T: Entry, S: Sum<T>>(
+    by: S,
     negative: bool,
     n: usize,
     step: usize,
@@ -92,35 +95,35 @@ fn add_grid(
     m: usize,
     from: usize,
     to: usize,
-    t: &mut [Residue],
+    t: &mut [T],
 )
     requires { (0 < step) × (m * gap ≤ half_most * width) × Disjoint (λ j. Line (j * gap) step n) m × Apart (Grid n step gap m) from to (length t.old) }
-    ensures { Added 0 (BothBelow q) (signed_sum q negative) from to (Grid n step gap m) t.old t.new }
+    ensures { Added T.NONE (S.allowed by) (S.sum by negative) from to (Grid n step gap m) t.old t.new }
 {
     for j in 0..m {
-        add_line(q, negative, j * gap, step, n, from, to, t);
+        add_line(by, negative, j * gap, step, n, from, to, t);
     }
 }
 
 // The same of m coefficients of each of h elements, column after column or row after row.
-fn add_part(
-    q: Residue,
+pub fn add_part<T: Entry, S: Sum<T>>(
+    by: S,
     negative: bool,
     d: usize,
     h: usize,
     m: usize,
     from: usize,
     to: usize,
-    t: &mut [Residue],
+    t: &mut [T],
 )
     requires { (0 < d) × (d ≤ width) × (h ≤ half_most) × (m ≤ d) × Apart (Grid m 1 d h) from to (length t.old) }
-    ensures { Added 0 (BothBelow q) (signed_sum q negative) from to (Grid m 1 d h) t.old t.new }
+    ensures { Added T.NONE (S.allowed by) (S.sum by negative) from to (Grid m 1 d h) t.old t.new }
 {
     if d < ROWS_FROM {
-        add_grid(q, negative, h, d, 1, m, from, to, t);
+        add_grid(by, negative, h, d, 1, m, from, to, t);
         return;
     }
-    add_grid(q, negative, m, 1, d, h, from, to, t);
+    add_grid(by, negative, m, 1, d, h, from, to, t);
 }
 
 // Adds X^e times each of the h elements from place `second` on to those from place `to` on, which stand before them.
@@ -131,8 +134,9 @@ fn fold_each(q: Residue, d: usize, h: usize, e: usize, to: usize, second: usize,
     let low = e < d;
     let s = residues::row_start(d, e);
     let rest = d - s;
-    add_part(q, low, d, h, s, second + rest, to, t);
-    add_part(q, !low, d, h, rest, second, to + s, t);
+    let by = Modulo { q };
+    add_part(by, low, d, h, s, second + rest, to, t);
+    add_part(by, !low, d, h, rest, second, to + s, t);
 }
 
 // The fold of the 2h elements from place `from` on, written from place `to` on.

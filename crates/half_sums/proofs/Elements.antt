@@ -11,10 +11,10 @@ use Rattle.protocol.specs.Element.{modulo, plus, signed_at, residue_at}
 use Rattle.protocol.specs.Opening.{second}
 use Rattle.protocol.proofs.Modulo.{modulo-lt}
 use Rattle.protocol.proofs.Reading.{cell-inside, row_inside}
-use Rattle.residues.specs.Residues.{Residues}
-use Rattle.residues.proofs.Fill.{filled, filled_at}
+use Rattle.residues.specs.Residues.{BothBelow, BothSmall, Residues, signed}
+use Rattle.residues.proofs.Fill.{filled_at}
 use Rattle.residues.proofs.Parts.{tail_at, tail-length}
-use Rattle.half_sums.specs.Room.{Room, Long}
+use Rattle.half_sums.specs.Room.{Room, Long, Summed, part}
 use Rattle.half_sums.specs.Halves.{Small, message_sums, key_sum_at, MessageAt, MessageSum, KeyAt, KeySum, Halves, HalvesAt, HalfSums}
 
 -- ---- as the code works it out
@@ -23,10 +23,6 @@ use Rattle.half_sums.specs.Halves.{Small, message_sums, key_sum_at, MessageAt, M
 module _ (d h i at behind : ℕ) (inside : i < h) (first : at ≡ i * d) (second_at : behind ≡ h * d + i * d) where
   row : i * d + d ≤ h * d
   row = row_inside d h i inside
-
-  -- a table from a place on, as the code hands it on
-  abbrev part {ℓ} : {A : Type ℓ} → ℕ → List A → List A
-  part s l = take (length l - s) (drop s l)
 
   pub first_inside : at + d ≤ 2 * (h * d)
   first_inside = omega (arith, row, first)
@@ -48,7 +44,7 @@ module _ (d h i at behind : ℕ) (inside : i < h) (first : at ≡ i * d) (second
   two j = omega (arith, second_at, Nat.add-mul h i d)
 
 module _ (d h i at behind : ℕ) (f : List ℤ) (z : MessageAt d h i at behind f) where
-  room : (s : ℕ) → s + d ≤ 2 * (h * d) → Room d (part d h i at behind z.inside z.first z.second_at s f)
+  room : (s : ℕ) → s + d ≤ 2 * (h * d) → Room d (part s f)
   room s l = record { each = λ j m. subst (λ x. nat_abs x < 2 ^ 30) (sym (tail_at s f j (pos 0))) (omega (arith, z.small (s + j) (omega arith))) }
 
   pub message-inside : (at ≤ length f) × (behind ≤ length f)
@@ -59,15 +55,13 @@ module _ (d h i at behind : ℕ) (f : List ℤ) (z : MessageAt d h i at behind f
   )
 
   pub message-sum_is : (m m' : List ℤ) → d ≤ length m
-      → (Long d (length (take (length f - at) (drop at f))) (length (take (length f - behind) (drop behind f))) (length m)
-      → Room d (take (length f - at) (drop at f)) × Room d (take (length f - behind) (drop behind f))
-      → m' ≡ filled (λ p. get_or (take (length f - at) (drop at f)) p (pos 0) +ℤ get_or (take (length f - behind) (drop behind f)) p (pos 0)) d m)
-      → MessageSum d h f i m'
-  unfolding message_sums plus second signed_at
+      → Summed (pos 0) (λ _. BothSmall) (λ _ negative x y. x +ℤ signed negative y) (tt {0}) d (part at f) (part behind f) m m' → MessageSum d h f i m'
+  unfolding message_sums plus second signed_at signed
   message-sum_is m m' lm ms j l =
       let i1 = first_inside d h i at behind z.inside z.first z.second_at in
       let i2 = second_inside d h i at behind z.inside z.first z.second_at in
-      ap (λ x. get_or x j (pos 0)) (ms (long d h i at behind z.inside z.first z.second_at f (length m) z.long lm) (room at i1, room behind i2))
+      ap (λ x. get_or x j (pos 0))
+      (ms (long d h i at behind z.inside z.first z.second_at f (length m) z.long lm) (λ p b. record { left = (room at i1).each p b; right = (room behind i2).each p b }))
       ∙ filled_at _ d m (pos 0) j l
       ∙ λ t. (tail_at at f j (pos 0) ∙ ap (λ n. get_or f n (pos 0)) (one d h i at behind z.inside z.first z.second_at j)) t
       +ℤ (tail_at behind f j (pos 0) ∙ ap (λ n. get_or f n (pos 0)) (two d h i at behind z.inside z.first z.second_at j)) t
@@ -80,16 +74,18 @@ module _ (q d h i at behind : ℕ) (g : List ℕ) (z : KeyAt q d h i at behind g
   key-inside = (omega (arith, z.long, first_inside d h i at behind z.inside z.first z.second_at), omega (arith, z.long, second_inside d h i at behind z.inside z.first z.second_at))
 
   pub key-sum_is : (k k' : List ℕ) → d ≤ length k
-      → (Long d (length (take (length g - at) (drop at g))) (length (take (length g - behind) (drop behind g))) (length k)
-      → Residues q d 0 (take (length g - at) (drop at g)) × Residues q d 0 (take (length g - behind) (drop behind g))
-      → k' ≡ filled (λ p. (get_or (take (length g - at) (drop at g)) p 0 + get_or (take (length g - behind) (drop behind g)) p 0) % q) d k)
-      → KeySum q d h g i k'
-  unfolding key_sum_at plus second residue_at modulo
+      → Summed 0 (λ n. BothBelow n) (λ n negative x y. modulo n (pos x +ℤ signed negative (pos y))) q d (part at g) (part behind g) k k' → KeySum q d h g i k'
+  unfolding key_sum_at plus second residue_at modulo signed
   key-sum_is k k' lk ks j l =
       let lg = long d h i at behind z.inside z.first z.second_at g (length k) z.long lk in
       let i1 = first_inside d h i at behind z.inside z.first z.second_at in
       let i2 = second_inside d h i at behind z.inside z.first z.second_at in
-      ap (λ x. get_or x j 0) (ks lg (residues at i1 lg.first-long, residues behind i2 lg.second_long))
+      let r1 = residues at i1 lg.first-long in
+      let r2 = residues behind i2 lg.second_long in
+      ap (λ x. get_or x j 0) (ks lg (λ p b. record {
+        left = omega (arith, ap (λ n. get_or (part at g) n 0) (Nat.zero-add p), r1.each p b);
+        right = omega (arith, ap (λ n. get_or (part behind g) n 0) (Nat.zero-add p), r2.each p b);
+      }))
       ∙ filled_at _ d k 0 j l
       ∙ λ t. ((tail_at at g j 0 ∙ ap (λ n. get_or g n 0) (one d h i at behind z.inside z.first z.second_at j)) t
       + (tail_at behind g j 0 ∙ ap (λ n. get_or g n 0) (two d h i at behind z.inside z.first z.second_at j)) t) % q

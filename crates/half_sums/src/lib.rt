@@ -1,30 +1,54 @@
 // The sums of the two halves of a table, number by number; the second half comes as a part of the table. Every public function is safe for every input.
 #![tactic(auto)]
 
-ghost use Rattle.std.specs.Prelude.{◌≡◌, ℕ, ◌+◌, ◌%◌, ◌^◌, ◌<◌, ◌≤◌, pos, nat_abs, ◌+ℤ◌, length, get_or};
+ghost use Rattle.std.specs.Prelude.{◌≡◌, ℕ, ◌+◌, ◌%◌, ◌≤◌, pos, ◌+ℤ◌, length, get_or};
 ghost use Rattle.protocol.specs.Basic.{Provided};
 ghost use Rattle.residues.specs.Lists.{filled};
 ghost use Rattle.residues.specs.Residues.{Residues};
-ghost use Rattle.half_sums.specs.Room.{Room, Long};
+ghost use Rattle.half_sums.specs.Room.{Room, Long, Summed, part};
 ghost use Rattle.half_sums.specs.Halves.{MessageAt, MessageSum, KeyAt, KeySum, HalvesAt, HalfSums};
 
 use protocol::Residue;
-use ranges::tests;
+use residues::Entry;
+use residues::sums::{Modulo, Sum, Whole};
 
-// x, or 0 where it is so large that two such numbers may have no sum of 32 bits.
-fn limited(x: i32) -> i32
-    ensures { (nat_abs result < 2 ^ 30) × Provided (nat_abs x < 2 ^ 30) (result ≡ x) }
+// The sums of the first n numbers of two tables, written to the front of a third.
+fn add_parts<T: Entry, S: Sum<T>>(by: S, n: usize, first: &[T], second: &[T], sums: &mut [T])
+    ensures { Summed T.NONE S.allowed S.sum by n first.now second.now sums.old sums.new }
 {
-    if tests::magnitude(x) < 1073741824 {
-        return x;
+    if first.len() < n {
+        return;
     }
-    0
+    if second.len() < n {
+        return;
+    }
+    if sums.len() < n {
+        return;
+    }
+    let front = &mut sums[..n];
+    for (p, x) in front.iter_mut().enumerate() {
+        *x = by.add(false, first[p], second[p]);
+    }
 }
 
-fn whole_sum(x: i32, y: i32) -> i32
-    ensures { Provided (nat_abs x < 2 ^ 30) (Provided (nat_abs y < 2 ^ 30) (result ≡ x +ℤ y)) }
+// The sums of two elements of a table, which begin at these two places, written to the front of another.
+fn add_elements<T: Entry, S: Sum<T>>(
+    by: S,
+    d: usize,
+    at: usize,
+    behind: usize,
+    t: &[T],
+    sums: &mut [T],
+)
+    ensures { Provided ((at ≤ length t.now) × (behind ≤ length t.now)) (Summed T.NONE S.allowed S.sum by d (part at t.now) (part behind t.now) sums.old sums.new) }
 {
-    limited(x) + limited(y)
+    if t.len() < at {
+        return;
+    }
+    if t.len() < behind {
+        return;
+    }
+    add_parts(by, d, &t[at..], &t[behind..], sums);
 }
 
 // Of a message, whose halves have n numbers.
@@ -32,18 +56,7 @@ pub fn message_sums(n: usize, first: &[i32], second: &[i32], sums: &mut [i32])
     ensures { Provided (Long n (length first.now) (length second.now) (length sums.old)) (Provided (Room n first.now
         × Room n second.now) (sums.new ≡ filled (λ p. get_or first.now p (pos 0) +ℤ get_or second.now p (pos 0)) n sums.old)) }
 {
-    if first.len() < n {
-        return;
-    }
-    if second.len() < n {
-        return;
-    }
-    if sums.len() < n {
-        return;
-    }
-    for p in 0..n {
-        sums[p] = whole_sum(first[p], second[p]);
-    }
+    add_parts(Whole, n, first, second, sums);
 }
 
 // Of a key, modulo q.
@@ -51,18 +64,7 @@ pub fn key_sums(q: Residue, n: usize, first: &[Residue], second: &[Residue], sum
     ensures { Provided (Long n (length first.now) (length second.now) (length sums.old)) (Provided (Residues q n 0 first.now
         × Residues q n 0 second.now) (sums.new ≡ filled (λ p. (get_or first.now p 0 + get_or second.now p 0) % q) n sums.old)) }
 {
-    if first.len() < n {
-        return;
-    }
-    if second.len() < n {
-        return;
-    }
-    if sums.len() < n {
-        return;
-    }
-    for p in 0..n {
-        sums[p] = residues::plus(q, first[p], second[p]);
-    }
+    add_parts(Modulo { q }, n, first, second, sums);
 }
 
 // Element i of the sums of a message's halves, written to the front of m: the elements that begin at these two places are added.
@@ -70,13 +72,7 @@ pub fn add_message(d: usize, at: usize, behind: usize, f: &[i32], m: &mut [i32])
     ensures { (h i : ℕ) → Provided (MessageAt d h i at behind f.now × (d ≤ length m.old))
         (MessageSum d h f.now i m.new) }
 {
-    if f.len() < at {
-        return;
-    }
-    if f.len() < behind {
-        return;
-    }
-    message_sums(d, &f[at..], &f[behind..], m);
+    add_elements(Whole, d, at, behind, f, m);
 }
 
 // The same of a key, modulo q.
@@ -84,13 +80,7 @@ pub fn add_key(q: Residue, d: usize, at: usize, behind: usize, g: &[Residue], k:
     ensures { (h i : ℕ) → Provided (KeyAt q d h i at behind g.now × (d ≤ length k.old))
         (KeySum q d h g.now i k.new) }
 {
-    if g.len() < at {
-        return;
-    }
-    if g.len() < behind {
-        return;
-    }
-    key_sums(q, d, &g[at..], &g[behind..], k);
+    add_elements(Modulo { q }, d, at, behind, g, k);
 }
 
 // The same of both.

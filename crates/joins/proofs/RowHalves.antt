@@ -6,7 +6,7 @@ use Rattle.protocol.specs.Element.{Element, modulo, product, signed}
 use Rattle.protocol.proofs.Modulo.{modulo_add}
 use Rattle.protocol.proofs.Reading.{cell-inside}
 use Rattle.residues.proofs.Fill.{filled, filled_at}
-use Rattle.rows.specs.Rows.{strand, turned, narrowed, start, add_row, add_rows, total, term, Prepared}
+use Rattle.rows.specs.Rows.{strand, turned, narrowed, add_row, add_rows, total, term, Prepared}
 use Rattle.rows.proofs.Rows.{row_at, rows_front}
 use Rattle.rows.proofs.Extension.{turned_lt}
 use Rattle.rows.proofs.Terms.{added-residue}

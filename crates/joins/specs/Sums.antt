@@ -10,7 +10,7 @@
 --                       there are upper halves
 --   Stand q d F s t     the first d sums of s and of t stand for the element F modulo q, and may be joined
 --   Strands c r d out   strand r of c, which have d numbers each, has room in a list of `out` numbers
-use Rattle.std.specs.Prelude.{◌≡◌, ℕ, ◌*◌, ◌/◌, ◌%◌, ◌^◌, ◌<◌, ◌≤◌, List, length, ℤ, pos, ◌+ℤ◌, ◌*ℤ◌, slice_index, unsigned_abs}
+use Rattle.std.specs.Prelude.{◌≡◌, ℕ, ◌/◌, ◌%◌, ◌^◌, ◌<◌, ◌≤◌, List, length, ℤ, pos, ◌+ℤ◌, ◌*ℤ◌, slice_index, unsigned_abs}
 use Rattle.protocol.specs.Element.{Element, width, modulo}
 use Rattle.protocol.specs.Layout.{rows_most}
 use Rattle.modular.specs.Factors.{Modulus, Prepared}

@@ -16,8 +16,9 @@ pub fn upper_halves(n: usize, x: &mut [u64])
     if x.len() < n {
         return;
     }
-    for k in 0..n {
-        x[k] = crate::upper_half(x[k]);
+    let front = &mut x[..n];
+    for y in front.iter_mut() {
+        *y = crate::upper_half(*y);
     }
 }
 
@@ -35,8 +36,9 @@ pub fn join_all(joint: Joint, d: usize, s: &[u64], t: &[u64]) -> [u64; WIDTH]
     if t.len() < d {
         return a;
     }
-    for k in 0..d {
-        a[k] = crate::join(joint, s[k], t[k]);
+    let front = &mut a[..d];
+    for (k, x) in front.iter_mut().enumerate() {
+        *x = crate::join(joint, s[k], t[k]);
     }
     a
 }
@@ -72,8 +74,9 @@ pub fn join_strand(
     if out.len() < d {
         return;
     }
-    for k in 0..d {
+    let front = &mut out[..d];
+    for (k, x) in front.iter_mut().enumerate() {
         let at = k * strands + r;
-        out[k] = crate::join(joint, s[at], t[at]);
+        *x = crate::join(joint, s[at], t[at]);
     }
 }

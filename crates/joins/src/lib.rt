@@ -78,10 +78,10 @@ pub fn join(joint: Joint, s: u64, t: u64) -> u64
     if q == 0 {
         return 0;
     }
-    let lower = std::num::wrapping_add_u64(s, joint.offset);
+    let lower = s.wrapping_add(joint.offset);
     if q < 4294967296 {
         return lower % q;
     }
-    let upper = factors::multiply(joint.weight, std::num::wrapping_add_u64(t, joint.offset));
-    std::num::wrapping_add_u64(lower, upper) % q
+    let upper = factors::multiply(joint.weight, t.wrapping_add(joint.offset));
+    lower.wrapping_add(upper) % q
 }

@@ -2,4 +2,4 @@ pub mod Signs
 pub mod Split
 pub mod Sums
 pub mod Answers
-pub mod Places
+pub mod Same

@@ -104,7 +104,7 @@ fn scaled_is(q: Residue, c: u32, factor: Factor, x: Residue, y: Residue) -> bool
     requires { Ready q c factor × (x < q) }
     ensures { result ≡ eqb (c * x % q) y }
 {
-    scaling::times(q, u64::from(c), factor, x) == y
+    scaling::times(q, c as u64, factor, x) == y
 }
 
 // Is c times the commitment the sum of w_i·G_i, in one row.
@@ -121,10 +121,9 @@ pub(crate) fn opens(
     let sums = combination(settings, key, w);
     let q = settings.modulus;
     let d = settings.degree as usize;
-    let factor = scaling::prepared(q, u64::from(c));
-    // A loop: each place asks of two tables what a closure would have to be shown.
-    for k in 0..d {
-        if !scaled_is(q, c, factor, commitment[k], sums[k]) {
+    let factor = scaling::prepared(q, c as u64);
+    for (k, x) in commitment[..d].iter().enumerate() {
+        if !scaled_is(q, c, factor, *x, sums[k]) {
             return false;
         }
     }

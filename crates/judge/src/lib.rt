@@ -24,7 +24,7 @@ pub fn judge(
 {
     refusals::judge::judge(settings, commitment, c, key, w)?;
     Ok(
-        tests::all_within_wide(sizes::growth(settings), w)
+        tests::all_within(sizes::growth(settings), w)
             && key_rows::every_row_opens(settings, &commitment, c, key, w),
     )
 }

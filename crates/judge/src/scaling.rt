@@ -47,7 +47,7 @@ pub(crate) fn add_scaled(q: Residue, d: usize, y: u64, b: &[Residue], a: &mut [R
     ensures { a.new ≡ filled (λ k. (get_or a.old k 0 + y * get_or b.now k 0) % q) d a.old }
 {
     let factor = prepared(q, y);
-    for k in 0..d {
-        a[k] = joined(q, y, factor, a[k], b[k]);
+    for (k, x) in a[..d].iter_mut().enumerate() {
+        *x = joined(q, y, factor, *x, b[k]);
     }
 }

@@ -39,7 +39,7 @@ pub fn opened(
         challenges,
         rounds,
     );
-    let last = elements::signed_element_at(settings.degree, message, 0);
+    let last = elements::element_at(settings.degree, message, 0);
     let verdict = opening_checks::verdict(settings, ended.holds, &claims, &last, key);
     Outcome {
         commitment,

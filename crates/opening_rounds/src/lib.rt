@@ -6,11 +6,14 @@
 ghost use Rattle.std.specs.Prelude.{◌≡◌, ◌+◌, ◌*◌, ◌%◌, ◌^◌, ◌<◌, ◌≤◌, length, get_or};
 ghost use Rattle.protocol.specs.Basic.{Provided};
 ghost use Rattle.protocol.specs.Layout.{item_cells};
+ghost use Rattle.protocol.specs.Opening.{half_left};
+ghost use Rattle.protocol.specs.Rows.{key_row};
 ghost use Rattle.protocol.specs.Calls.{commit_refusal, round_refusal};
 ghost use Rattle.residues.specs.Lists.{filled, spliced};
 ghost use Rattle.residues.specs.Residues.{Residues};
 ghost use Rattle.plain_products.specs.Rowwise.{row_places};
-ghost use Rattle.opening_rounds.specs.Rounds.{sum_at, half, Halvables, middle_at, last_at, round_item, sum_item, ItemsBegun, Continuing};
+ghost use Rattle.round_products.specs.Items.{inner_item};
+ghost use Rattle.opening_rounds.specs.Rounds.{sum_at, half, Halvables, middle_at, last_at, round_item, ItemsBegun, Continuing};
 
 use modular::halves;
 use protocol::{ROWS_WIDTH, Residue, Settings};
@@ -25,9 +28,8 @@ fn write_halved(q: Residue, d: usize, t: u32, element: &[Residue], out: &mut [Re
     if out.len() < d {
         return;
     }
-    for k in 0..d {
-        out[k] = halves::halved_times(q, t, element[k]);
-    }
+    out[..d].copy_from_slice(&element[..d]);
+    round_products::halve(q, d, t, out);
 }
 
 // The first n numbers of another table, added to those of out modulo q.
@@ -35,8 +37,8 @@ fn add_table(q: Residue, n: usize, y: &[Residue], out: &mut [Residue])
     requires { (n ≤ length y.now) × (n ≤ length out.old) }
     ensures { Provided (Residues q n 0 out.old × Residues q n 0 y.now) (out.new ≡ filled (sum_at q out.old y.now) n out.old) }
 {
-    for k in 0..n {
-        out[k] = residues::plus(q, out[k], y[k]);
+    for (k, z) in y[..n].iter().enumerate() {
+        out[k] = residues::plus(q, out[k], *z);
     }
 }
 
@@ -94,30 +96,34 @@ pub fn begin(
     add_table(q, n, &second, commitments);
 }
 
+// half^(t + 1) times the inner product of the first halves in every row, or of the sums of the halves.
+fn item(
+    sums: bool,
+    settings: Settings,
+    t: u32,
+    key: &[Residue],
+    message: &[i32],
+    out: &mut [Residue],
+)
+    ensures { Provided (round_refusal settings t key.now message.now ≡ 0)
+        (Provided (item_cells settings ≤ length out.old)
+        (out.new ≡ filled (row_places settings.degree
+        (inner_item sums settings (half_left settings t) (half settings.modulus ^ (t + 1)) message.now (key_row settings key.now))) (item_cells settings) out.old)) }
+{
+    if t >= settings.depth {
+        return;
+    }
+    let h = sizes::half_left(settings, t);
+    round_products::items(sums, settings, h, t + 1, message, key, out);
+}
+
 // c0 of round t + 1 in every row.
 pub fn first_item(settings: Settings, t: u32, key: &[Residue], message: &[i32], out: &mut [Residue])
     ensures { Provided (round_refusal settings t key.now message.now ≡ 0)
         (Provided (item_cells settings ≤ length out.old)
         (out.new ≡ filled (row_places settings.degree (round_item settings t key.now message.now 0)) (item_cells settings) out.old)) }
 {
-    if t >= settings.depth {
-        return;
-    }
-    let h = sizes::half_left(settings, t);
-    round_products::items(false, settings, h, t + 1, message, key, out);
-}
-
-// half^(t + 1)·⟨m0 + m1, G0 + G1⟩ in every row: c0 + c1 + c2 of round t + 1.
-fn sum_item(settings: Settings, t: u32, key: &[Residue], message: &[i32], out: &mut [Residue])
-    ensures { Provided (round_refusal settings t key.now message.now ≡ 0)
-        (Provided (item_cells settings ≤ length out.old)
-        (out.new ≡ filled (row_places settings.degree (sum_item settings t key.now message.now)) (item_cells settings) out.old)) }
-{
-    if t >= settings.depth {
-        return;
-    }
-    let h = sizes::half_left(settings, t);
-    round_products::items(true, settings, h, t + 1, message, key, out);
+    item(false, settings, t, key, message, out);
 }
 
 // The middle item, in whose place the sum of the three stands: that less half of the claim.
@@ -126,9 +132,9 @@ fn write_middle(q: Residue, n: usize, claim: &[Residue], p: &mut [Residue])
     ensures { Provided (Residues q n n p.old
         × Halvables q n claim.now) (p.new ≡ spliced (middle_at q n claim.now p.old) n n p.old) }
 {
-    for k in 0..n {
+    for (k, y) in claim[..n].iter().enumerate() {
         let x = p[n + k];
-        p[n + k] = residues::minus(q, x, halves::halved(q, claim[k]));
+        p[n + k] = residues::minus(q, x, halves::halved(q, *y));
     }
 }
 
@@ -138,13 +144,13 @@ fn write_last(q: Residue, n: usize, claim: &[Residue], p: &mut [Residue])
     ensures { Provided (Residues q n 0 p.old
         × Halvables q n claim.now) (p.new ≡ spliced (last_at q claim.now p.old) (2 * n) n p.old) }
 {
-    for k in 0..n {
-        let y = p[k];
-        p[2 * n + k] = residues::minus(q, halves::halved(q, claim[k]), y);
+    for (k, y) in claim[..n].iter().enumerate() {
+        let x = p[k];
+        p[2 * n + k] = residues::minus(q, halves::halved(q, *y), x);
     }
 }
 
-// c1 and c2 of round t + 1 in every row, behind c0 with which p begins.
+// c1 and c2 of round t + 1 in every row, behind c0 with which p begins: c0 + c1 + c2 is the item of the halves' sums.
 pub fn rest(
     settings: Settings,
     t: u32,
@@ -165,7 +171,7 @@ pub fn rest(
     if p.len() < 3 * n {
         return;
     }
-    sum_item(settings, t, key, message, &mut p[n..]);
+    item(true, settings, t, key, message, &mut p[n..]);
     write_middle(q, n, claim, p);
     write_last(q, n, claim, p);
 }

@@ -2,7 +2,7 @@
 use mathlib.Core.Path.{◌≡◌, refl, sym, ap, ◌∙◌, subst}
 use mathlib.Core.Bool.{Bool, true, false}
 use mathlib.Core.List.{List}
-use Prim.Native.Nat.{ℕ, ◌+◌, ◌*◌, ◌-◌, ◌^◌, ◌<◌, ◌≤◌}
+use Prim.Native.Nat.{ℕ, ◌+◌, ◌*◌, ◌^◌, ◌<◌, ◌≤◌}
 use native.Mathlib.Nat as Nat
 use native.Mathlib.Omega.{arith}
 use lib.IntN.{ℤ}
@@ -17,6 +17,10 @@ use Rattle.half_sums.specs.Halves.{size_of, messages_of, keys_of}
 use Rattle.rows.specs.Rows.{woven}
 use Rattle.strands.proofs.Weaving.{keys-alike}
 use Rattle.joins.specs.Sums.{Halves}
+use Rattle.product_sums.specs.declared.Shape.{Shape}
+use Rattle.product_sums.specs.Shapes.{ShapeGiven, one_row}
+use Rattle.plain_products.specs.Sums.{RowsWritten}
+use Rattle.plain_products.specs.Shapes.{ShapeWritten}
 use Rattle.product_sums.specs.Sums.{Stands, Summable, Given, RowsGiven}
 use Rattle.product_sums.proofs.Rows.{known}
 use Rattle.plain_products.specs.Sums.{Summed}
@@ -105,3 +109,9 @@ one_row_lem q d F =
     ap (λ n. filled (row_places d (λ _. reduced q d F)) n (zeros width)) (Nat.one-mul d)
     ∙ filled_ext _ (λ k. modulo q (F k)) d (zeros width) (λ k h. ap (λ i. get_or (reduced q d F) i 0) (Nat.mod-eq_of_lt h) ∙ tabulate_at d (λ j. modulo q (F j)) 0 k h)
     ∙ element-done (λ k. modulo q (F k)) d d _ refl refl
+
+-- of a shape of one row
+pub by_one_row : (z : Shape) (q d n : ℕ) → z ≡ one_row q d n → (f : List ℤ) (g out after : List ℕ)
+    → ((G : ℕ → List ℕ) → ShapeGiven z f g G × (z.rows * z.degree ≤ length out) → ShapeWritten z f G out after)
+    → (G : ℕ → List ℕ) → RowsGiven false q d n 1 0 f g G × (1 * d ≤ length out) → RowsWritten false q d n 1 f G out after
+by_one_row z q d n e f g out after h = subst (λ z. (G : ℕ → List ℕ) → ShapeGiven z f g G × (z.rows * z.degree ≤ length out) → ShapeWritten z f G out after) e h

@@ -1,21 +1,19 @@
 -- Rows of a key that begin with the numbers of other tables: an inner product by the transform is the same with either. And a loop over rows that writes an element for each.
-use mathlib.Core.Path.{◌≡◌, refl, sym, ap, ◌∙◌, subst}
+use mathlib.Core.Path.{◌≡◌, refl, sym, ap, ◌∙◌}
 use mathlib.Core.Bool.{Bool, true, false}
 use mathlib.Core.List.{List}
 use Prim.Native.Nat.{ℕ, ◌+◌, ◌*◌, ◌-◌, ◌<◌, ◌≤◌}
 use borrow.Rule.Slice.PartMut.{put_mid}
 use native.Mathlib.Nat as Nat
 use native.Mathlib.Omega.{arith}
-use lib.IntN.{ℤ, pos, ◌+ℤ◌}
+use lib.IntN.{ℤ}
 use lib.ListN.{length, get_or, take, drop}
-use Rattle.protocol.specs.Element.{Element, width, modulo, reduced, padded, zeros, plus, residue_at}
-use Rattle.protocol.specs.Opening.{inner, second}
-use Rattle.protocol.proofs.Agreement.{Same, sum-ext, product_same}
-use Rattle.protocol.proofs.Reading.{row_inside, cell-inside, tabulate_at, tabulate_ext}
+use Rattle.protocol.specs.Element.{Element, width, modulo, reduced, padded}
+use Rattle.protocol.proofs.Reading.{row_inside, tabulate_at, tabulate_ext}
 use Rattle.residues.specs.Lists.{filled, spliced}
-use Rattle.residues.proofs.Fill.{filled_none, filled_ext, element-done}
+use Rattle.residues.proofs.Fill.{filled_none, filled_ext}
 use Rattle.residues.proofs.Padding.{padded_at}
-use Rattle.half_sums.specs.Halves.{key_sum_at, size_of, keys_of}
+use Rattle.half_sums.specs.Halves.{size_of}
 use Rattle.batches.specs.Batches.{Suits, most, MessageGiven, KeyGiven}
 use Rattle.batches.proofs.Batching.{suits-width}
 use Rattle.strands.proofs.Weaving.{keys-alike}

@@ -2,15 +2,17 @@
 // the transform.
 #![tactic(auto)]
 
-ghost use Rattle.std.specs.Prelude.{◌≡◌, List, ℕ, ◌*◌, ◌≤◌, ℤ, length};
+ghost use Rattle.std.specs.Prelude.{◌≡◌, List, ℕ, ◌*◌, ◌^◌, ◌≤◌, ℤ, length};
 ghost use Rattle.protocol.specs.Basic.{Provided};
 ghost use Rattle.protocol.specs.Element.{reduced, padded, signed_at, residue_at};
 ghost use Rattle.protocol.specs.Opening as opening;
-ghost use Rattle.half_sums.specs.Halves.{messages_of};
-ghost use Rattle.batches.specs.Batches.{Zero, Suits, Ready};
-ghost use Rattle.product_sums.specs.Sums.{Summable, RowsGiven};
-ghost use Rattle.plain_products.specs.Sums.{RowsWritten};
+ghost use Rattle.batches.specs.Batches.{Ready};
+ghost use Rattle.product_sums.specs.Sums.{Summable};
+ghost use Rattle.product_sums.specs.Shapes.{ShapeGiven, messages_in};
+ghost use Rattle.plain_products.specs.Shapes.{ShapeWritten};
+ghost use Rattle.products.specs.Transformed.{TransformGiven, TransformWritten};
 
+use product_sums::Shape;
 use protocol::{Residue, WIDTH};
 use strands::further;
 
@@ -20,105 +22,78 @@ const TABLE: usize = 256 * WIDTH + 4;
 
 const SHORT_TABLE: usize = 64 * WIDTH;
 
-// The inner products by the transform of a level, for which the message is prepared in x.
-fn write_rows(
-    sums: bool,
-    level: u32,
-    d: u32,
-    n: u32,
-    rows: u32,
-    stride: usize,
-    x: &[u16],
-    g: &[Residue],
-    out: &mut [Residue],
-)
-    ensures { (f : List ℤ) (G : ℕ → List ℕ) → Provided (RowsGiven sums 12289 d n rows stride f g.now G × (rows * d ≤ length out.old)
-        × Suits 12289 d n level × Ready level d n (messages_of sums d n f) x.now × (n * d ≤ length x.now))
-        (RowsWritten sums 12289 d n rows f G out.old out.new) }
+// The inner products modulo 12289 by the transform of a level, for which the message is prepared in x.
+fn write_rows(shape: Shape, level: u32, x: &[u16], g: &[Residue], out: &mut [Residue])
+    ensures { (f : List ℤ) (G : ℕ → List ℕ) → Provided (TransformGiven shape level f g.now G × (shape.rows * shape.degree ≤ length out.old)
+        × Ready level shape.degree shape.elements (messages_in shape f) x.now × (shape.elements * shape.degree ≤ length x.now))
+        (TransformWritten shape f G out.old out.new) }
 {
-    let cells = d as usize;
+    let cells = shape.degree as usize;
     let mut from: usize = 0;
     let mut at: usize = 0;
-    let mut r: u32 = 0;
-    while r < rows {
+    for _ in 0..shape.rows {
         if out.len() - at < cells {
             return;
         }
-        let element = batches::inner(sums, level, cells, n as usize, x, &g[from..]);
+        let element = batches::inner(
+            shape.sums,
+            level,
+            cells,
+            shape.elements as usize,
+            x,
+            &g[from..],
+        );
         residues::store(cells, &element, 0, &mut out[at..]);
-        from = further(from, stride, g.len());
+        from = further(from, shape.stride, g.len());
         at += cells;
-        r += 1;
     }
 }
 
-// The same: what the transform needs of f is worked out once for all rows, in x.
-fn send_rows(
-    sums: bool,
+// The same: what the transform needs of f is worked out once for all rows, in X numbers that are set to 0.
+fn send_rows<const X: usize>(
+    shape: Shape,
     level: u32,
-    d: u32,
-    n: u32,
-    rows: u32,
-    stride: usize,
     f: &[i32],
-    x: &mut [u16],
     g: &[Residue],
     out: &mut [Residue],
 )
-    ensures { (G : ℕ → List ℕ) → Provided (RowsGiven sums 12289 d n rows stride f.now g.now G × (rows * d ≤ length out.old)
-        × Suits 12289 d n level × (n * d ≤ length x.old) × Zero x.old)
-        (RowsWritten sums 12289 d n rows f.now G out.old out.new) }
+    requires { (shape.elements * shape.degree ≤ X) × (X ≤ 2 ^ 16) }
+    ensures { (G : ℕ → List ℕ) → Provided (TransformGiven shape level f.now g.now G × (shape.rows * shape.degree ≤ length out.old)) (TransformWritten shape f.now G out.old out.new) }
 {
-    batches::prepare(sums, level, d as usize, n as usize, f, x);
-    write_rows(sums, level, d, n, rows, stride, x, g, out);
+    let mut x = [0u16; X];
+    batches::prepare(
+        shape.sums,
+        level,
+        shape.degree as usize,
+        shape.elements as usize,
+        f,
+        &mut x,
+    );
+    write_rows(shape, level, &x, g, out);
 }
 
-// The same with as much room as it takes. A short table takes less, since all of it is set to 0 first.
-fn transformed_rows(
-    sums: bool,
-    level: u32,
-    d: u32,
-    n: u32,
-    rows: u32,
-    stride: usize,
-    f: &[i32],
-    g: &[Residue],
-    out: &mut [Residue],
-)
-    ensures { (G : ℕ → List ℕ) → Provided (RowsGiven sums 12289 d n rows stride f.now g.now G × (rows * d ≤ length out.old) × Suits 12289 d n level)
-        (RowsWritten sums 12289 d n rows f.now G out.old out.new) }
+// The same with as much room as it takes: a short table takes less, since all of it is set to 0 first.
+fn transformed_rows(shape: Shape, level: u32, f: &[i32], g: &[Residue], out: &mut [Residue])
+    ensures { (G : ℕ → List ℕ) → Provided (TransformGiven shape level f.now g.now G × (shape.rows * shape.degree ≤ length out.old)) (TransformWritten shape f.now G out.old out.new) }
 {
-    if (n as usize) * (d as usize) <= SHORT_TABLE {
-        let mut x = [0u16; SHORT_TABLE];
-        send_rows(sums, level, d, n, rows, stride, f, &mut x, g, out);
-        return;
+    let cells = (shape.elements as usize) * (shape.degree as usize);
+    if cells <= SHORT_TABLE {
+        send_rows::<SHORT_TABLE>(shape, level, f, g, out);
+    } else if cells <= TABLE {
+        send_rows::<TABLE>(shape, level, f, g, out);
     }
-    let mut x = [0u16; TABLE];
-    send_rows(sums, level, d, n, rows, stride, f, &mut x, g, out);
 }
 
-// The inner product of the first n elements of f with those of every row of g, or of the sums of their halves, which have n elements, modulo q: an element for each row, one
-// behind the other. The rows begin at the distance `stride`.
-pub fn inner_rows(
-    sums: bool,
-    q: Residue,
-    d: u32,
-    n: u32,
-    rows: u32,
-    stride: usize,
-    f: &[i32],
-    g: &[Residue],
-    out: &mut [Residue],
-)
-    ensures { (G : ℕ → List ℕ) → Provided (RowsGiven sums q d n rows stride f.now g.now G × (rows * d ≤ length out.old))
-        (RowsWritten sums q d n rows f.now G out.old out.new) }
+// The inner product of f with every row of g, as the shape says, modulo q: an element for each row, one behind the other.
+pub fn inner_rows(shape: Shape, f: &[i32], g: &[Residue], out: &mut [Residue])
+    ensures { (G : ℕ → List ℕ) → Provided (ShapeGiven shape f.now g.now G × (shape.rows * shape.degree ≤ length out.old)) (ShapeWritten shape f.now G out.old out.new) }
 {
-    let level = batches::level(q, d, n);
+    let level = batches::level(shape.modulus, shape.degree, shape.elements);
     if level == 0 {
-        plain_products::inner_rows(sums, q, d, n, rows, stride, f, g, out);
+        plain_products::inner_rows(shape, f, g, out);
         return;
     }
-    transformed_rows(sums, level, d, n, rows, stride, f, g, out);
+    transformed_rows(shape, level, f, g, out);
 }
 
 // The same for one row.
@@ -126,6 +101,6 @@ pub fn inner(q: Residue, d: u32, n: u32, f: &[i32], g: &[Residue]) -> [Residue; 
     ensures { Provided (Summable q d n f.now g.now) (result ≡ padded d (reduced q d (opening.inner d n (signed_at d f.now) (residue_at d g.now)))) }
 {
     let mut a = [0u64; WIDTH];
-    inner_rows(false, q, d, n, 1, 0, f, g, &mut a);
+    inner_rows(Shape::of_one_row(q, d, n), f, g, &mut a);
     a
 }

@@ -1,6 +1,6 @@
 -- What a chain of iterators answers, as the definitions say it.
 --
---   every_is     `(0..n).all(f)` is `every n f`, and `every_asked` is the same by the cases that `cases_from_all` gives
+--   every_asked  `(0..n).all(f)` is `every n f`, by the cases that `cases_from_all` gives
 --   from_zero    what `0..n` yields, for `cases_from_all`
 --   all_is       `t.iter().all(f)` is `all f t`; z is any value
 use Rattle.std.proofs.Common.{◌≡◌, ℕ, ◌<◌, Bool, true, false, List, IsTrue, ◌↔◌, All, length, get_or, refl, sym, ap, ◌∙◌, arith}
@@ -14,9 +14,6 @@ use Rattle.std.proofs.lemmas.Iterator.{YieldsList, YieldsList-from_range}
 use Rattle.std.proofs.lemmas.List.FromFn.{length-range_with_len, get_or-range_with_len}
 use Rattle.protocol.specs.Basic.{every, all}
 use Rattle.protocol.proofs.Tests.{every_at, every-intro, same_test, all_at, all_intro}
-
-pub every_is : (n : ℕ) (f : ℕ → Bool) {r : Bool} → (IsTrue r ↔ ((k : ℕ) → k < n → IsTrue (f k))) → r ≡ every n f
-every_is n f {r} h = same_test (λ e. every-intro (λ k l. h.0 e k l)) (λ e. h.1 (λ k l. every_at n f e k l))
 
 pub all_is : {A : Type 0} (f : A → Bool) (t : List A) (z : A) {r : Bool} → (IsTrue r ↔ All (λ x. IsTrue (f x)) t) → r ≡ all f t
 all_is f t z {r} h = same_test (λ e. all_intro f t z (λ k l. h.0 e k z l)) (λ e. h.1 (λ k d l. all_at f t d e k l))

@@ -128,5 +128,5 @@ pub fn end(settings: Settings, done: u32, message: &[i32]) -> Result<[i32; WIDTH
     ensures { as_ended result ≡ end_answer settings done message.now }
 {
     prover_refusals::prover::end(settings, done, message)?;
-    Ok(elements::signed_element_at(settings.degree, message, 0))
+    Ok(elements::element_at(settings.degree, message, 0))
 }

@@ -7,7 +7,7 @@ use protocol::{Refusal, Residue, Settings};
 use ranges::tests;
 use ranges::tests::require;
 
-#[tactic(auto, unfolding(protocol::specs::Basic::first, protocol::specs::Basic::unless, protocol::specs::Calls::opening_refusal, protocol::specs::Settings::all_below, protocol::specs::Settings::has_length, protocol::specs::Settings::exponent, protocol::specs::Settings::exponents))]
+#[tactic(auto, unfolding(protocol::specs::Basic::first, protocol::specs::Basic::unless, protocol::specs::Calls::opening_refusal, protocol::specs::Settings::all_below, protocol::specs::Settings::has_length, protocol::specs::Settings::exponent, protocol::specs::Settings::exponents, protocol::specs::Settings::all_within))]
 pub fn open(
     settings: Settings,
     key: &[Residue],

@@ -34,7 +34,7 @@ fn left_small(settings: Settings, t: u32, message: &[i32]) -> bool
     tests::all_within(bound, &message[..end])
 }
 
-#[tactic(auto, unfolding(protocol::specs::Basic::first, protocol::specs::Basic::unless, protocol::specs::Calls::commit_refusal, protocol::specs::Settings::all_below))]
+#[tactic(auto, unfolding(protocol::specs::Basic::first, protocol::specs::Basic::unless, protocol::specs::Calls::commit_refusal, protocol::specs::Settings::all_below, protocol::specs::Settings::all_within))]
 pub fn commit(settings: Settings, key: &[Residue], message: &[i32]) -> Result<(), Refusal>
     ensures { refusal_of result ≡ commit_refusal settings key.now message.now }
 {

@@ -8,24 +8,7 @@ use Rattle.protocol.specs.Basic.{every, all, within}
 use Rattle.ranges.proofs.Magnitude.{through-bits}
 use Rattle.protocol.proofs.Tests.{and_intro, every_at}
 
--- ---- over a table, in a loop that stops at the first that fails: what is left decides
-
-module _ {ℓ} {A : Type ℓ} (f : A → Bool) (t : List A) (z : A) (i : ℕ) (e : all f t ≡ all f (drop i t)) where
-  at : i < length t → all f t ≡ (f (get_or t i z) && all f (drop (suc i) t))
-  unfolding all
-  at h = e ∙ ap (all f) (drop-cons t i z h)
-
-  pub all_goes_on : i < length t → f (get_or t i z) ≡ true → all f t ≡ all f (drop (i + 1) t)
-  all_goes_on h p = at h ∙ ap (λ b. b && all f (drop (suc i) t)) p ∙ ap (λ n. all f (drop n t)) (sym (add-one i))
-
-  pub all_fails : i < length t → f (get_or t i z) ≡ false → false ≡ all f t
-  all_fails h p = sym (at h ∙ ap (λ b. b && all f (drop (suc i) t)) p)
-
-  pub all_ends : length t ≤ i → true ≡ all f t
-  unfolding all
-  all_ends h = sym (e ∙ ap (all f) (drop_of_length-le t h))
-
--- ---- the same in a loop that asks all entries: what is known, and what is left, decide
+-- ---- over a table, in a loop that asks all entries: what is known, and what is left, decide
 
 and_assoc : (a b c : Bool) → (a && (b && c)) ≡ ((a && b) && c)
 and_assoc true b c = refl
@@ -67,23 +50,6 @@ module _ {ℓ} {A : Type ℓ} (f : A → Bool) (t : List A) (z : A) (i : ℕ) (g
   pub asked_ends : length t ≤ i → good ≡ all f t
   unfolding all
   asked_ends h = sym (e ∙ ap (λ l. good && all f l) (drop_of_length-le t h) ∙ and-true good)
-
--- the same of a signed number, which is read as its bits
-module _ (w : Width) (f : ℤ → Bool) (t : List ℤ) (i : ℕ) (good : Bool) (e : all f t ≡ (good && all f (drop i t))) where
-  pub number_goes_on : i < length t → mag (get_or t i (pos 0)) < 2 ^ hbits w → {next : Bool} → next ≡ (good && f (to_z w (of_z w (get_or t i (pos 0))))) → all f t ≡ (next && all f (drop (i + 1) t))
-  number_goes_on h fits n = asked_goes_on f t (pos 0) i good e h (n ∙ ap (λ z. good && f z) (through-bits w _ fits))
-
--- one number more, by its magnitude
-module _ (w : Width) (good : Bool) (bound : ℕ) (x : ℤ) (fits : SFits w x) (m : ℕ) (is : m ≡ nat_abs (to_z w (of_z w x))) where
-  within_is : {b : Bool} → leb m bound ≡ b → (good && within bound x) ≡ (good && b)
-  unfolding within
-  within_is e = ap (λ b. good && b) (ap (λ n. leb n bound) (sym (is ∙ ap nat_abs (to_z-of_z fits))) ∙ e)
-
-  pub within_holds : m ≤ bound → good ≡ (good && within bound x)
-  within_holds h = sym (within_is (le-leb m bound h) ∙ and-true good)
-
-  pub within_fails : bound < m → false ≡ (good && within bound x)
-  within_fails h = sym (within_is (lt-leb m bound h) ∙ and-false good)
 
 -- ---- over the places below n: those that are passed hold
 

@@ -1,6 +1,6 @@
 // The tests that refusals go by.
-ghost use Rattle.std.specs.Prelude.{◌≡◌, ◌^◌, ◌<◌, ◌≤◌, ◌&&◌, ltb, length, nat_lt, slice_index, unsigned_abs};
-ghost use Rattle.protocol.specs.Basic.{every, all, unless, Provided, Tested};
+ghost use Rattle.std.specs.Prelude.{◌≡◌, ℕ, ℤ, ◌^◌, ◌<◌, ◌≤◌, ◌&&◌, ltb, length, nat_lt, slice_index, unsigned_abs};
+ghost use Rattle.protocol.specs.Basic.{every, all, within, unless, Provided};
 ghost use Rattle.protocol.specs.Element.{value_row};
 ghost use Rattle.protocol.specs.Refusal.{number, refusal_of};
 ghost use Rattle.protocol.specs.Layout.{width, rows_most, rows_width};
@@ -138,69 +138,52 @@ pub fn rows_below(limit: Residue, d: u32, rows: u32, a: &[Residue]) -> bool
     (0..n).all(|i| row_below(limit, d, i, a))
 }
 
+// A number with a sign, of 32 bits or of 64, beside the bound of its magnitude.
+pub trait Signed: Copy {
+    type Bound: Copy;
+
+    ghost number: { Self → ℤ };
+
+    ghost bound: { Self.Bound → ℕ };
+
+    // Is it from −bound to bound.
+    fn is_within(self, most: Self::Bound) -> bool
+        ensures { result ≡ within (bound most) (number self) };
+}
+
+impl Signed for i32 {
+    type Bound = u32;
+
+    ghost number = { λ x. x };
+
+    ghost bound = { λ b. b };
+
+    #[tactic(auto, unfolding(protocol::specs::Basic::within))]
+    fn is_within(self, most: u32) -> bool {
+        self.unsigned_abs() <= most
+    }
+}
+
+impl Signed for i64 {
+    type Bound = u64;
+
+    ghost number = { λ x. x };
+
+    ghost bound = { λ b. b };
+
+    #[tactic(auto, unfolding(protocol::specs::Basic::within))]
+    fn is_within(self, most: u64) -> bool {
+        self.unsigned_abs() <= most
+    }
+}
+
 // Is every number of a table from −bound to bound. All are asked, also behind one that is not, so that the compiler takes several at a time.
-pub fn all_within(bound: u32, t: &[i32]) -> bool
-    ensures { result ≡ all_within bound t.now }
+pub fn all_within<T: Signed>(most: T::Bound, t: &[T]) -> bool
+    ensures { result ≡ all (λ x. within (T.bound most) (T.number x)) t.now }
 {
     let mut good = true;
     for x in t {
-        good = good & (x.unsigned_abs() <= bound);
+        good = good & x.is_within(most);
     }
     good
-}
-
-pub fn all_within_wide(bound: u64, t: &[i64]) -> bool
-    ensures { result ≡ all_within bound t.now }
-{
-    let mut good = true;
-    for x in t {
-        good = good & (x.unsigned_abs() <= bound);
-    }
-    good
-}
-
-// ---- to go once nothing calls them
-// One test more: an earlier refusal stands, and otherwise the number is given unless the test holds.
-pub fn refuse(earlier: u32, number: u32, holds: bool) -> u32
-    ensures { Tested earlier number holds result }
-{
-    if earlier != 0 {
-        return earlier;
-    }
-    if holds {
-        return 0;
-    }
-    number
-}
-
-// Refusals 3 to 6 and 16, the first that applies; 0 where the settings are allowed.
-pub fn settings_refusal(settings: Settings) -> u32
-    ensures { result ≡ settings_refusal settings }
-{
-    let r3 = refuse(0, 3, degree_allowed(settings));
-    let r4 = refuse(r3, 4, settings.depth <= DEPTH_MOST);
-    let r5 = refuse(r4, 5, modulus_allowed(settings));
-    let r6 = refuse(r5, 6, bound_allowed(settings));
-    refuse(r6, 16, rows_allowed(settings))
-}
-
-// The magnitude of a number. One is added before the sign changes: the least number of a width has a magnitude that is no number of that width.
-pub fn magnitude(x: i32) -> u32
-    ensures { result ≡ unsigned_abs x }
-{
-    if x < 0 {
-        ((-(x + 1)) as u32) + 1
-    } else {
-        x as u32
-    }
-}
-
-pub fn magnitude_wide(x: i64) -> u64
-    ensures { result ≡ unsigned_abs x }
-{
-    if x < 0 {
-        ((-(x + 1)) as u64) + 1
-    } else {
-        x as u64
-    }
 }

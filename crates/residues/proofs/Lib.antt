@@ -8,3 +8,4 @@ pub mod Parts
 pub mod Padding
 pub mod Signs
 pub mod Adding
+pub mod Fronts

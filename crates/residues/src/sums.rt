@@ -1,46 +1,63 @@
 // How two numbers are added, and rows of them that are added number by number.
-ghost use Rattle.std.specs.Prelude.{◌≡◌, ℕ, ◌+◌, ◌<◌, ◌≤◌, length, pos, ◌+ℤ◌, get_or};
+ghost use Rattle.std.specs.Prelude.{Bool, ◌≡◌, ℕ, ◌+◌, ◌<◌, ◌≤◌, length, pos, ◌+ℤ◌, get_or};
 ghost use Rattle.protocol.specs.Basic.{Provided, tabulate};
 ghost use Rattle.protocol.specs.Element.{modulo};
-ghost use Rattle.residues.specs.Residues.{BothBelow, signed};
+ghost use Rattle.residues.specs.Residues.{BothBelow, BothSmall, signed};
 
 use crate::Entry;
 use protocol::Residue;
 
-// A way to add: which numbers it allows, and what their sum is.
+// A way to add two numbers, or to take the second away: which numbers it allows, and what it makes of them.
 pub trait Sum<T>: Copy {
     ghost allowed: { Self → T → T → Type 0 };
 
-    ghost sum: { Self → T → T → T };
+    ghost sum: { Self → Bool → T → T → T };
 
-    fn add(self, x: T, y: T) -> T
-        ensures { Provided (allowed self x y) (result ≡ sum self x y) };
+    fn add(self, negative: bool, x: T, y: T) -> T
+        ensures { Provided (allowed self x y) (result ≡ sum self negative x y) };
 }
 
-// The sum modulo q, or the difference.
+// Residues modulo q.
 #[derive(Clone, Copy)]
-pub struct Modular {
+pub struct Modulo {
     pub q: Residue,
-    pub negative: bool,
 }
 
-impl Sum<Residue> for Modular {
+impl Sum<Residue> for Modulo {
     ghost allowed = { λ s. BothBelow s.q };
 
-    ghost sum = { λ s x y. modulo s.q (pos x +ℤ signed s.negative (pos y)) };
+    ghost sum = { λ s negative x y. modulo s.q (pos x +ℤ signed negative (pos y)) };
 
-    fn add(self, x: Residue, y: Residue) -> Residue {
-        crate::signed_sum(self.q, self.negative, x, y)
+    fn add(self, negative: bool, x: Residue, y: Residue) -> Residue {
+        crate::signed_sum(self.q, negative, x, y)
     }
 }
 
-// Adds a row to as many numbers, each to the one at its place.
-pub fn add_row<T: Entry, S: Sum<T>>(by: S, row: &[T], sums: &mut [T])
+// Whole numbers that are small enough for their sum to be a number of 32 bits too.
+#[derive(Clone, Copy)]
+pub struct Whole;
+
+impl Sum<i32> for Whole {
+    ghost allowed = { λ _. BothSmall };
+
+    ghost sum = { λ _ negative x y. x +ℤ signed negative y };
+
+    fn add(self, negative: bool, x: i32, y: i32) -> i32 {
+        if negative {
+            x.wrapping_sub(y)
+        } else {
+            x.wrapping_add(y)
+        }
+    }
+}
+
+// Adds a row to as many numbers, each to the one at its place, or takes it away.
+pub fn add_row<T: Entry, S: Sum<T>>(by: S, negative: bool, row: &[T], sums: &mut [T])
     requires { length sums.old ≤ length row.now }
     ensures { Provided ((k : ℕ) → k < length sums.old → S.allowed by (get_or sums.old k T.NONE) (get_or row.now k T.NONE))
-        (sums.new ≡ tabulate (length sums.old) (λ k. S.sum by (get_or sums.old k T.NONE) (get_or row.now k T.NONE))) }
+        (sums.new ≡ tabulate (length sums.old) (λ k. S.sum by negative (get_or sums.old k T.NONE) (get_or row.now k T.NONE))) }
 {
     for (k, x) in sums.iter_mut().enumerate() {
-        *x = by.add(*x, row[k]);
+        *x = by.add(negative, *x, row[k]);
     }
 }

@@ -1,56 +1,84 @@
 -- The value of a polynomial at X^e: multiples X^e·a that are added to an element, one after the other.
-use Rattle.std.proofs.Common.{◌≡◌, ℕ, ◌+◌, ◌-◌, ◌*◌, ◌%◌, ◌<◌, ◌≤◌, not, ltb, List, length, get_or, pos, ◌+ℤ◌, sym, ap, ◌∙◌, arith}
+use Rattle.std.proofs.Common.{◌≡◌, ℕ, ◌+◌, ◌-◌, ◌*◌, ◌%◌, ◌<◌, ◌≤◌, Bool, not, ltb, List, ◌++◌, length, get_or, take, drop, pos, ◌+ℤ◌, sym, ap, ◌∙◌, subst, arith, length-drop, length-take-le, get_or-drop, get_or-take}
 use native.Mathlib.Nat as Nat
 use Rattle.protocol.specs.Element.{Element, modulo, rotate, residue}
+use Rattle.protocol.specs.Basic.{tabulate}
+use Rattle.protocol.proofs.Reading.{tabulate_ext, tabulate_add}
 use Rattle.protocol.proofs.Modulo.{modulo-lt, modulo_again}
 use Rattle.rotations.specs.Values.{Summands, plus_turned, value_at, Coefficients}
 use Rattle.residues.specs.Lists.{spliced}
 use Rattle.residues.specs.Places.{SecondRow}
-use Rattle.residues.specs.Residues.{Residues, signed}
+use Rattle.residues.specs.Residues.{BothBelow, signed}
 use Rattle.residues.proofs.Around.{rotate-mod, rotate-rotate}
 use Rattle.residues.proofs.Turns.{front-turn, back_turn}
-use Rattle.residues.proofs.Splice.{spliced-length, spliced-inside, spliced_ext, spliced-twice, spliced-again}
-use Rattle.residues.proofs.Parts.{residues-part, residues_kept, residues-written, residues-alike, as_was}
+use Rattle.residues.proofs.Splice.{spliced-inside, spliced_ext, spliced-again}
+use Rattle.residues.proofs.Parts.{residues-written, tail_at}
+use Rattle.residues.proofs.Adding.{both, Allowed}
 
--- ---- X^e·a added to the element at place `to`, one row after the other
+-- ---- X^e·a added to an element: x and y are its two rows, u and v what becomes of them
 
-module _ (q d e s to : ℕ) (most : e < 2 * d) (inside : s ≤ d) (row : SecondRow d e s) (a out : List ℕ) where
-  abbrev front : ℕ → ℕ
-  front k = modulo q (pos (get_or out (to + k) 0) +ℤ signed (ltb e d) (pos (get_or a (d - s + k) 0)))
+module _ (sum : Bool → ℕ → ℕ → ℕ) (allowed : ℕ → ℕ → Type 0) (q d e s : ℕ) (most : e < 2 * d) (inside : s ≤ d) (row : SecondRow d e s) (a out : List ℕ) (there : d ≤ length a)
+    (long : length out ≡ d) (is : (n : Bool) (x y : ℕ) → sum n x y ≡ modulo q (pos x +ℤ signed n (pos y)))
+    (may : (j k : ℕ) → j < d → k < d → allowed (get_or out j 0) (get_or a k 0)) where
+  abbrev tail : List ℕ
+  tail = take (length a - (d - s)) (drop (d - s) a)
 
-  front_is : (k : ℕ) → k < s → front k ≡ plus_turned q d e a to out k
-  unfolding residue
-  front_is k h = λ i. modulo q (pos (get_or out (to + k) 0) +ℤ front-turn d e s most row (residue a) k h i)
+  module _ (x u : List ℕ) (lx : length x ≡ s) (ax : (k z : ℕ) → k < s → get_or x k z ≡ get_or out k z)
+      (ex : Allowed 0 allowed (sum (ltb e d)) x tail → u ≡ tabulate (length x) (both 0 allowed (sum (ltb e d)) x tail)) where
+    front_is : (k : ℕ) → k < s → both 0 allowed (sum (ltb e d)) x tail k ≡ plus_turned q d e a 0 out k
+    unfolding residue
+    front_is k h =
+        is _ _ _
+        ∙ (λ i. modulo q (pos ((ax k 0 h ∙ ap (λ n. get_or out n 0) (sym (Nat.zero-add k))) i) +ℤ signed (ltb e d) (pos (tail_at (d - s) a k 0 i))))
+        ∙ (λ i. modulo q (pos (get_or out (0 + k) 0) +ℤ front-turn d e s most row (residue a) k h i))
 
-  module _ (long : to + d ≤ length out) (t : List ℕ) (is : t ≡ spliced front to s out) where
-    abbrev back : ℕ → ℕ
-    back k = modulo q (pos (get_or t (to + s + k) 0) +ℤ signed (not (ltb e d)) (pos (get_or a (0 + k) 0)))
+    pub front-done : u ≡ tabulate s (plus_turned q d e a 0 out)
+    front-done =
+        ex (λ j h. let b : j < s = omega (arith, h, lx) in
+        subst (λ n. allowed n (get_or tail j 0)) (sym (ax j 0 b)) (subst (allowed (get_or out j 0)) (sym (tail_at (d - s) a j 0)) (may j (d - s + j) (omega arith) (omega arith))))
+        ∙ ap (λ n. tabulate n (both 0 allowed (sum (ltb e d)) x tail)) lx
+        ∙ tabulate_ext s front_is
 
-    back_is : (k : ℕ) → k < d - s → back k ≡ plus_turned q d e a to out (s + k)
+  module _ (y v : List ℕ) (ly : length y + s ≡ length out) (ay : (k z : ℕ) → get_or y k z ≡ get_or out (s + k) z)
+      (ey : Allowed 0 allowed (sum (not (ltb e d))) y a → v ≡ tabulate (length y) (both 0 allowed (sum (not (ltb e d))) y a)) where
+    back_is : (k : ℕ) → k < d - s → both 0 allowed (sum (not (ltb e d))) y a k ≡ plus_turned q d e a 0 out (s + k)
     unfolding residue
     back_is k h =
-        (λ i. modulo q (pos (as_was front to s out t (omega (arith, long)) is (to + s + k) (omega arith) i) +ℤ signed (not (ltb e d)) (pos (get_or a (Nat.zero-add k i) 0))))
-        ∙ (λ i. modulo q (pos (get_or out (Nat.add_assoc to s k i) 0) +ℤ back_turn d e s most row (residue a) k h i))
+        is _ _ _
+        ∙ (λ i. modulo q (pos ((ay k 0 ∙ ap (λ n. get_or out n 0) (sym (Nat.zero-add (s + k)))) i) +ℤ signed (not (ltb e d)) (pos (get_or a k 0))))
+        ∙ (λ i. modulo q (pos (get_or out (0 + (s + k)) 0) +ℤ back_turn d e s most row (residue a) k h i))
 
-    pub turned-done : spliced back (to + s) (d - s) t ≡ spliced (plus_turned q d e a to out) to d out
-    turned-done =
-        ap (spliced back (to + s) (d - s)) (is ∙ spliced_ext front (plus_turned q d e a to out) to s out front_is)
-        ∙ spliced-twice (plus_turned q d e a to out) back to s (d - s) out (omega (arith, long)) back_is
-        ∙ ap (λ n. spliced (plus_turned q d e a to out) to n out) (omega arith)
+    pub back-done : v ≡ tabulate (d - s) (λ k. plus_turned q d e a 0 out (s + k))
+    back-done =
+        ey (λ j h. subst (λ n. allowed n (get_or a j 0)) (sym (ay j 0)) (may (s + j) j (omega (arith, h, ly)) (omega (arith, h, ly))))
+        ∙ ap (λ n. tabulate n (both 0 allowed (sum (not (ltb e d))) y a)) {y = d - s} (omega (arith, ly))
+        ∙ tabulate_ext (d - s) back_is
 
-  -- the rows that the two steps add, of residues: the second is still to be written when it is reached
-  module _ (all : Summands q d 0 a to out) where
-    pub front-summands : Summands q s (d - s) a to out
-    front-summands = record {
-      added = residues-part q d 0 s (d - s) all.added (omega arith) (omega arith);
-      own = residues-part q d to s to all.own (omega arith) (omega arith);
-    }
+  pub both-done : (u v : List ℕ) → u ≡ tabulate s (plus_turned q d e a 0 out) → v ≡ tabulate (d - s) (λ k. plus_turned q d e a 0 out (s + k)) → u ++ v ≡ tabulate d (plus_turned q d e a 0 out)
+  both-done u v eu ev = (λ i. eu i ++ ev i) ∙ sym (tabulate_add s (d - s) (plus_turned q d e a 0 out)) ∙ ap (λ n. tabulate n (plus_turned q d e a 0 out)) {y = d} (omega arith)
 
-    pub back_summands : (t : List ℕ) → t ≡ spliced front to s out → Summands q (d - s) 0 a (to + s) t
-    back_summands t is = record {
-      added = residues-part q d 0 (d - s) 0 all.added (omega arith) (omega arith);
-      own = residues_kept front to s out t (omega (arith, all.own.long)) is q (d - s) (to + s) (residues-part q d to (d - s) (to + s) all.own (omega arith) (omega arith)) (omega arith);
-    }
+-- an element of a table to which such a multiple is added, as it is handed back
+module _ (q d e to : ℕ) (a out s : List ℕ) (room : to + d ≤ length out) where
+  abbrev Placed : ℕ → Type 0
+  Placed m = s ≡ tabulate d (plus_turned q d e a 0 (take m (drop to out))) → take to out ++ (s ++ drop m (drop to out)) ≡ spliced (plus_turned q d e a to out) to d out
+
+  placed_at : Placed d
+  unfolding spliced
+  placed_at h = ap (λ t. take to out ++ (t ++ drop d (drop to out)))
+      (h ∙ tabulate_ext d (λ k b. ap (λ x. modulo q (pos x +ℤ rotate d e (residue a) k)) (ap (λ n. get_or (take d (drop to out)) n 0) (Nat.zero-add k) ∙ get_or-take d (drop to out) k 0 b ∙ get_or-drop to out k 0)))
+
+  pub placed : {m : ℕ} → m ≡ d → Placed m
+  placed e = subst Placed (sym e) placed_at
+
+  -- the element is as long as that, and of residues where that is
+  pub element_long : {m : ℕ} → m ≡ d → length (take m (drop to out)) ≡ d
+  element_long e = ap (λ n. length (take n (drop to out))) e ∙ length-take-le d (drop to out) (omega (arith, length-drop to out))
+
+  pub element_may : {m : ℕ} → m ≡ d → Summands q d 0 a to out → (j k : ℕ) → j < d → k < d → BothBelow q (get_or (take m (drop to out)) j 0) (get_or a k 0)
+  element_may e h j k b l = record {
+    left = omega (arith, ap (λ n. get_or (take n (drop to out)) j 0) e ∙ get_or-take d (drop to out) j 0 b ∙ get_or-drop to out j 0, h.own.each j b);
+    right = omega (arith, h.added.each k l, ap (λ n. get_or a n 0) (Nat.zero-add k));
+  }
 
 -- ---- an element, then its multiple of c1, then that of c2
 

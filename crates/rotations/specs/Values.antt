@@ -4,13 +4,13 @@
 --   Addable q d e ..           may X^e·a be added so: such numbers, and an exponent below 2d
 --   Turnable q d a out         the lists a and out begin with an element of residues each, of a degree that there is
 --   Gatherable d a sums        lists of these lengths begin with an element each, of a degree that there is
---   plus_row q negative ..     number k of a row to which a row is added, or from which it is taken, modulo q
 --   plus_turned q d e ..       coefficient k of the element at a place of a list, with X^e·a added, modulo q
 --   value_at q d e c0 c1 c2 k  coefficient k of c0 + X^e·c1 + X^2e·c2, modulo q
 --   values_of q d e ..         the same of elements in lists
 --   Coefficients q d ..        three elements of residues
 --   Valuable q d ..            such three of a degree that there is, with room for an element
---   RowAdded, Valued           the promises of `accumulate_row` and `value`
+--   Adds sum allowed by q ..   the way `by` to add is addition modulo q, and allows each number of the element a beside each of out
+--   Valued                     the promise of `value`
 use Rattle.std.specs.Prelude.{◌≡◌, ℕ, ◌+◌, ◌*◌, ◌<◌, ◌≤◌, Bool, List, length, pos, ◌+ℤ◌, slice_index}
 use Rattle.protocol.specs.Basic.{Provided}
 use Rattle.protocol.specs.Element.{Element, width, modulo, rotate, residue}
@@ -36,9 +36,6 @@ pub record Gatherable (d a sums : ℕ) : Type 0 where
   pub there : d ≤ a
   pub room : d ≤ sums
 
-abbrev pub plus_row : ℕ → Bool → List ℕ → ℕ → List ℕ → ℕ → ℕ → ℕ
-plus_row q negative a from out to k = modulo q (pos (slice_index out (to + k)) +ℤ signed negative (pos (slice_index a (from + k))))
-
 abbrev pub plus_turned : ℕ → ℕ → ℕ → List ℕ → ℕ → List ℕ → ℕ → ℕ
 plus_turned q d e a at out k = modulo q (pos (slice_index out (at + k)) +ℤ rotate d e (residue a) k)
 
@@ -60,10 +57,11 @@ pub record Valuable (q d : ℕ) (c0 c1 c2 out : List ℕ) : Type 0 where
   pub coefficients : Coefficients q d c0 c1 c2
   pub room : d ≤ length out
 
--- ---- what the functions promise: `after` is the list that stood for `out` before
+pub record Adds {S : Type 0} (sum : S → Bool → ℕ → ℕ → ℕ) (allowed : S → ℕ → ℕ → Type 0) (by : S) (q d : ℕ) (a out : List ℕ) : Type 0 where
+  pub is : (n : Bool) (x y : ℕ) → sum by n x y ≡ modulo q (pos x +ℤ signed n (pos y))
+  pub may : (j k : ℕ) → j < d → k < d → allowed by (slice_index out j) (slice_index a k)
 
-abbrev pub RowAdded : ℕ → ℕ → Bool → List ℕ → ℕ → List ℕ → ℕ → List ℕ → Type 0
-RowAdded q n negative a from out to after = Provided (Summands q n from a to out) (after ≡ spliced (plus_row q negative a from out to) to n out)
+-- ---- what the functions promise: `after` is the list that stood for `out` before
 
 abbrev pub Valued : ℕ → ℕ → ℕ → List ℕ → List ℕ → List ℕ → List ℕ → List ℕ → Type 0
 Valued q d e c0 c1 c2 out after = Provided (Valuable q d c0 c1 c2 out) (after ≡ spliced (values_of q d e c0 c1 c2) 0 d out)

@@ -3,33 +3,44 @@
 // several at a time.
 #![tactic(auto)]
 
-ghost use Rattle.std.specs.Prelude.{◌≡◌, ◌+◌, ◌^◌, ◌≤◌, length, pos, ◌+ℤ◌};
-ghost use Rattle.protocol.specs.Basic.{Provided};
+ghost use Rattle.std.specs.Prelude.{⊤, ◌≡◌, ℕ, ◌+◌, ◌*◌, ◌^◌, ◌<◌, ◌≤◌, length, pos, ◌+ℤ◌};
+ghost use Rattle.protocol.specs.Basic.{Provided, tabulate};
 ghost use Rattle.protocol.specs.Element.{modulo};
 ghost use Rattle.residues.specs.Lists.{spliced};
 ghost use Rattle.residues.specs.Residues.{signed};
-ghost use Rattle.rotations.specs.Values.{Addable, RowAdded, Turnable, Gatherable, Valued, plus_row, plus_turned};
+ghost use Rattle.rotations.specs.Values.{Addable, Adds, Turnable, Gatherable, Valued, plus_turned};
 
 use protocol::Residue;
-use residues::signed_sum;
+use residues::sums::{Modulo, Sum, add_row};
 
-// Adds a row of a to a row of out, or takes it away, modulo q.
-fn accumulate_row(
-    q: Residue,
-    n: usize,
-    negative: bool,
-    a: &[Residue],
-    from: usize,
-    out: &mut [Residue],
-    to: usize,
-)
-    requires { (from + n ≤ length a.now) × (to + n ≤ length out.old) }
-    ensures { RowAdded q n negative a.now from out.old to out.new }
-{
-    for k in 0..n {
-        let y = out[to + k];
-        out[to + k] = signed_sum(q, negative, y, a[from + k]);
+// Numbers modulo 2^64: sums of numbers with signs, which are reduced modulo q once all are added.
+#[derive(Clone, Copy)]
+struct Word;
+
+impl Sum<u64> for Word {
+    ghost allowed = { λ _ _ _. ⊤ };
+
+    ghost sum = { λ _ negative x y. modulo (2 ^ 64) (pos x +ℤ signed negative (pos y)) };
+
+    fn add(self, negative: bool, x: u64, y: u64) -> u64 {
+        if negative {
+            x.wrapping_sub(y)
+        } else {
+            x.wrapping_add(y)
+        }
     }
+}
+
+// Adds X^e·a to an element: X^e·a is two rows of a, with different signs.
+fn add_multiple<S: Sum<u64>>(by: S, d: usize, e: usize, a: &[Residue], out: &mut [u64])
+    requires { (e < 2 * d) × (d ≤ length a.now) × (length out.old ≡ d) }
+    ensures { (q : ℕ) → Provided (Adds S.sum S.allowed by q d a.now out.old) (out.new ≡ tabulate d (plus_turned q d e a.now 0 out.old)) }
+{
+    let low = e < d;
+    let s = residues::row_start(d, e);
+    let (first, second) = out.split_at_mut(s);
+    add_row(by, low, &a[d - s..], first);
+    add_row(by, !low, a, second);
 }
 
 // Adds X^e·a to the element at a place of out: X^e·a is two rows of a, with different signs. The table stays as it is where there is no such exponent or
@@ -56,11 +67,7 @@ pub fn accumulate_turned(
     if e >= 2 * d {
         return;
     }
-    let low = e < d;
-    let s = residues::row_start(d, e);
-    let n = d - s;
-    accumulate_row(q, s, low, a, n, out, to);
-    accumulate_row(q, n, !low, a, 0, out, to + s);
+    add_multiple(Modulo { q }, d, e, a, &mut out[to..to + d]);
 }
 
 // The same for every exponent, at the front of out.
@@ -70,27 +77,6 @@ pub fn add_turned(q: Residue, d: u32, e: u32, a: &[Residue], out: &mut [Residue]
     let n = d as usize;
     let once = residues::on_circle(n, e as usize);
     accumulate_turned(q, n, once, a, out, 0);
-}
-
-// y + x modulo 2^64, or y − x: a sum of numbers with signs, which is reduced modulo q once all are added.
-fn gathered(negative: bool, y: u64, x: u64) -> u64
-    ensures { result ≡ modulo (2 ^ 64) (pos y +ℤ signed negative (pos x)) }
-{
-    if negative {
-        return std::num::wrapping_sub_u64(y, x);
-    }
-    std::num::wrapping_add_u64(y, x)
-}
-
-// Adds a row of a to a row of sums, or takes it away.
-fn gather_row(n: usize, negative: bool, a: &[Residue], from: usize, sums: &mut [u64], to: usize)
-    requires { (from + n ≤ length a.now) × (to + n ≤ length sums.old) }
-    ensures { sums.new ≡ spliced (plus_row (2 ^ 64) negative a.now from sums.old to) to n sums.old }
-{
-    for k in 0..n {
-        let y = sums[to + k];
-        sums[to + k] = gathered(negative, y, a[from + k]);
-    }
 }
 
 // Adds X^e·a, for every exponent, to the sums at the front of a table; they stay as they are where there is no such element.
@@ -109,11 +95,7 @@ pub fn gather_turned(d: u32, e: u32, a: &[Residue], sums: &mut [u64])
     if once >= 2 * n {
         return;
     }
-    let low = once < n;
-    let s = residues::row_start(n, once);
-    let rest = n - s;
-    gather_row(s, low, a, rest, sums, 0);
-    gather_row(rest, !low, a, 0, sums, s);
+    add_multiple(Word, n, once, a, &mut sums[..n]);
 }
 
 // The value at X^e of the polynomial with the coefficients c0, c1, c2, modulo q, written to the front of out.

@@ -1,12 +1,12 @@
 -- Items: what is halved of them, and the items of a round.
-use mathlib.Core.Path.{◌≡◌, sym, ap, ◌∙◌, subst}
-use mathlib.Core.Bool.{Bool, true, false}
+use mathlib.Core.Path.{◌≡◌, sym, ap, ◌∙◌}
+use mathlib.Core.Bool.{true, false}
 use mathlib.Core.List.{List}
-use Prim.Native.Nat.{ℕ, ◌+◌, ◌*◌, ◌-◌, ◌/◌, ◌%◌, ◌^◌, ◌<◌, ◌≤◌}
+use Prim.Native.Nat.{ℕ, ◌+◌, ◌*◌, ◌/◌, ◌%◌, ◌^◌, ◌<◌, ◌≤◌}
 use native.Mathlib.Nat as Nat
 use native.Mathlib.Omega.{arith}
 use lib.IntN.{ℤ, pos, ◌*ℤ◌}
-use lib.ListN.{length, get_or, take, drop}
+use lib.ListN.{length, get_or}
 use Rattle.protocol.specs.declared.Settings.{Settings}
 use Rattle.protocol.specs.Element.{Element, modulo, times, reduced, signed_at, residue_at}
 use Rattle.protocol.specs.Settings.{settings_refusal, cells}
@@ -18,18 +18,15 @@ use Rattle.protocol.specs.Calls.{round_refusal}
 use Rattle.protocol.specs.Inputs.{Valid}
 use Rattle.protocol.proofs.Inputs.{settings-valid}
 use Rattle.protocol.proofs.Modulo.{reduced_at, modulo-lt, modulo_times}
-use Rattle.protocol.proofs.Reading.{tabulate_ext}
-use Rattle.protocol.proofs.Ranges.{round-below}
 use Rattle.residues.specs.Lists.{filled}
 use Rattle.residues.proofs.Fill.{filled_at, filled_ext, filled-again}
 use Rattle.prover_refusals.proofs.Given.{RoundGiven, first_row, round_given, round_key}
 use Rattle.sizes.proofs.Limits.{degree_least}
 use Rattle.product_sums.specs.Sums.{size_of, message_sums, key_sums, messages_of, keys_of, Given}
-use Rattle.plain_products.specs.Sums.{inner_element}
 use Rattle.plain_products.specs.Rowwise.{row_places}
 use Rattle.round_products.specs.Messages.{Halved}
-use Rattle.round_products.specs.Sums.{half, Halvables, less_both, inner_of_sums}
-use Rattle.round_products.specs.Items.{inner_item, ItemsGiven, round_item, Sent}
+use Rattle.round_products.specs.Sums.{Halvables, less_both, inner_of_sums}
+use Rattle.round_products.specs.Items.{inner_item, ItemsGiven, round_item}
 use Rattle.round_products.proofs.Products.{summable, first_halves, second_halves, cross_last}
 use Rattle.round_products.proofs.Halves.{round-tables, halves-inside}
 use Rattle.round_products.proofs.Mixing.{halves_summable, inner_mixed, spread, less_is}

@@ -12,6 +12,8 @@ ghost use Rattle.plain_products.specs.Rowwise.{row_places};
 ghost use Rattle.round_products.specs.Sums.{half, Halvables, less_both};
 ghost use Rattle.round_products.specs.Items.{inner_item, ItemsGiven, Sent};
 
+use modular::halves;
+use product_sums::Shape;
 use protocol::{Residue, Settings};
 
 // The first n numbers of a table of residues, each halved t times modulo q.
@@ -22,8 +24,8 @@ pub fn halve(q: Residue, n: usize, t: u32, p: &mut [Residue])
     if p.len() < n {
         return;
     }
-    for k in 0..n {
-        p[k] = modular::halves::halved_times(q, t, p[k]);
+    for x in &mut p[..n] {
+        *x = halves::halved_times(q, t, *x);
     }
 }
 
@@ -40,17 +42,15 @@ pub fn items(
     ensures { (G : ℕ → List ℕ) → Provided (ItemsGiven sums settings h message.now key.now G × (item_cells settings ≤ length out.old))
         (out.new ≡ filled (row_places settings.degree (inner_item sums settings h (half settings.modulus ^ t) message.now G)) (item_cells settings) out.old) }
 {
-    products::inner_rows(
+    let shape = Shape {
         sums,
-        settings.modulus,
-        settings.degree,
-        h,
-        settings.rows,
-        sizes::cells(settings),
-        message,
-        key,
-        out,
-    );
+        modulus: settings.modulus,
+        degree: settings.degree,
+        elements: h,
+        rows: settings.rows,
+        stride: sizes::cells(settings),
+    };
+    products::inner_rows(shape, message, key, out);
     halve(settings.modulus, sizes::item_cells(settings), t, out);
 }
 
@@ -67,8 +67,8 @@ fn difference(q: Residue, n: usize, a: &[Residue], b: &[Residue], x: &mut [Resid
     ensures { Provided ((k : ℕ) → k < n → (get_or x.old k 0 < q) × (get_or a.now k 0 < q) × (get_or b.now k 0 < q))
         (x.new ≡ filled (λ k. less_both q (get_or x.old k 0) (get_or a.now k 0) (get_or b.now k 0)) n x.old) }
 {
-    for k in 0..n {
-        x[k] = minus_both(q, x[k], a[k], b[k]);
+    for (k, y) in x[..n].iter_mut().enumerate() {
+        *y = minus_both(q, *y, a[k], b[k]);
     }
 }
 

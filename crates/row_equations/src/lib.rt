@@ -24,8 +24,8 @@ fn row_holds(
     c0: &[Residue],
     c2: &[Residue],
 ) -> bool
-    requires { (i < rows_most) × (step ≤ width) × (length claims.now ≡ rows_width) × (i * step ≤ length c0.now) × (i * step ≤ length c2.now) }
-    ensures { Provided (RoundGiven settings step (length c0.now) (length c2.now) × (i < settings.rows))
+    requires { (i < settings.rows) × (settings.rows ≤ rows_most) × (step ≤ width) × (length claims.now ≡ rows_width) × (settings.rows * step ≤ length c0.now) × (settings.rows * step ≤ length c2.now) }
+    ensures { Provided (RoundGiven settings step (length c0.now) (length c2.now))
         (result ≡ round_holds settings (value_row claims.now i) (residue (value_row (lent_rows settings step c0.now) i))
         (residue (value_row (lent_rows settings step c2.now) i))) }
 {
@@ -34,31 +34,7 @@ fn row_holds(
     equations::round_holds(settings, &claims[from..], &c0[at..], &c2[at..])
 }
 
-// Does it hold in every row.
-fn rows_hold(
-    settings: Settings,
-    claims: &[Residue],
-    step: usize,
-    c0: &[Residue],
-    c2: &[Residue],
-) -> bool
-    requires { (settings.rows ≤ rows_most) × (step ≤ width) × (length claims.now ≡ rows_width) × (settings.rows * step ≤ length c0.now) × (settings.rows * step ≤ length c2.now) }
-    ensures { Provided (RoundGiven settings step (length c0.now) (length c2.now))
-        (result ≡ every settings.rows (λ i. round_holds settings (value_row claims.now i) (residue (value_row (lent_rows settings step c0.now) i))
-        (residue (value_row (lent_rows settings step c2.now) i)))) }
-{
-    let n = settings.rows as usize;
-    let mut i: usize = 0;
-    while i < n {
-        if !row_holds(settings, i, claims, step, c0, c2) {
-            return false;
-        }
-        i += 1;
-    }
-    true
-}
-
-// Does a round hold.
+// Does a round hold in every row.
 pub fn round_holds(
     settings: Settings,
     claims: &[Residue],
@@ -72,23 +48,14 @@ pub fn round_holds(
         (residue (value_row (lent_rows settings step c2.now) i))))) }
 {
     let n = settings.rows as usize;
-    if n > ROWS {
-        return false;
-    }
-    if step > WIDTH {
-        return false;
-    }
-    if claims.len() != ROWS_WIDTH {
+    if n > ROWS || step > WIDTH || claims.len() != ROWS_WIDTH {
         return false;
     }
     let all = n * step;
-    if c0.len() < all {
+    if c0.len() < all || c2.len() < all {
         return false;
     }
-    if c2.len() < all {
-        return false;
-    }
-    rows_hold(settings, claims, step, c0, c2)
+    (0..n).all(|i| row_holds(settings, i, claims, step, c0, c2))
 }
 
 // Writes the claim of row i after a round: c0 + r·c1 + r²·c2, r = X^e.
@@ -136,15 +103,13 @@ fn next_rows(
         (claims.new ≡ at_rows settings (λ i. next_claim settings e (residue (value_row (lent_rows settings step c0.now) i))
         (residue (value_row (lent_rows settings step c1.now) i)) (residue (value_row (lent_rows settings step c2.now) i)))) }
 {
-    let n = settings.rows as usize;
-    let mut i: usize = 0;
-    while i < n {
+    for i in 0..settings.rows as usize {
         next_row(settings, e, i, step, c0, c1, c2, claims);
-        i += 1;
     }
 }
 
 // Writes the claims after a round, whatever stood there.
+#[tactic(auto, using(sizes::proofs::Limits::allowed_rows), unfolding(protocol::specs::Element::zeros))]
 pub fn next_claims(
     settings: Settings,
     e: u32,
@@ -159,26 +124,14 @@ pub fn next_claims(
         (residue (value_row (lent_rows settings step c1.now) i)) (residue (value_row (lent_rows settings step c2.now) i)))) }
 {
     let n = settings.rows as usize;
-    if n > ROWS {
-        return;
-    }
-    if step > WIDTH {
+    if n > ROWS || step > WIDTH || claims.len() != ROWS_WIDTH {
         return;
     }
     let all = n * step;
-    if c0.len() < all {
+    if c0.len() < all || c1.len() < all || c2.len() < all {
         return;
     }
-    if c1.len() < all {
-        return;
-    }
-    if c2.len() < all {
-        return;
-    }
-    if claims.len() != ROWS_WIDTH {
-        return;
-    }
-    slices::clear(claims);
+    claims.fill(0);
     next_rows(settings, e, step, c0, c1, c2, claims);
 }
 
@@ -191,7 +144,7 @@ fn row_ends(
     key: &[Residue],
     challenges: &[u32],
 ) -> bool
-    requires { (settings_refusal settings ≡ 0) × (i < settings.rows) × (i < rows_most) × (length claims.now ≡ rows_width) × (length key.now ≡ key_cells settings) }
+    requires { (settings_refusal settings ≡ 0) × (i < settings.rows) × (settings.rows ≤ rows_most) × (length claims.now ≡ rows_width) × (length key.now ≡ key_cells settings) }
     ensures { Provided (EndsGiven settings (length claims.now) (length last.now) key.now challenges.now)
         (result ≡ end_met settings (value_row claims.now i) (signed last.now) (folded_key settings (key_row settings key.now i) challenges.now)) }
 {
@@ -209,23 +162,17 @@ fn rows_end(
     key: &[Residue],
     challenges: &[u32],
 ) -> bool
-    requires { (settings_refusal settings ≡ 0) × (length claims.now ≡ rows_width) × (length key.now ≡ key_cells settings) }
+    requires { (settings_refusal settings ≡ 0) × (settings.rows ≤ rows_most) × (length claims.now ≡ rows_width) × (length key.now ≡ key_cells settings) }
     ensures { Provided (EndsGiven settings (length claims.now) (length last.now) key.now challenges.now)
         (result ≡ every settings.rows (λ i. end_met settings (value_row claims.now i) (signed last.now)
         (folded_key settings (key_row settings key.now i) challenges.now))) }
 {
     let n = settings.rows as usize;
-    let mut i: usize = 0;
-    while i < n {
-        if !row_ends(settings, i, claims, last, key, challenges) {
-            return false;
-        }
-        i += 1;
-    }
-    true
+    (0..n).all(|i| row_ends(settings, i, claims, last, key, challenges))
 }
 
 // Is the end met in every row, each with its own part of the key.
+#[tactic(auto, using(sizes::proofs::Limits::allowed_rows))]
 pub fn ends_hold(
     settings: Settings,
     claims: &[Residue],
@@ -237,13 +184,10 @@ pub fn ends_hold(
         (result ≡ every settings.rows (λ i. end_met settings (value_row claims.now i) (signed last.now)
         (folded_key settings (key_row settings key.now i) challenges.now))) }
 {
-    if ranges::tests::settings_refusal(settings) != 0 {
+    if ranges::tests::allow(settings).is_err() {
         return false;
     }
-    if claims.len() != ROWS_WIDTH {
-        return false;
-    }
-    if key.len() != sizes::key_cells(settings) {
+    if claims.len() != ROWS_WIDTH || key.len() != sizes::key_cells(settings) {
         return false;
     }
     rows_end(settings, claims, last, key, challenges)

@@ -1,4 +1,3 @@
 pub mod Rows
 pub mod Terms
-pub mod ThreeRows
 pub mod Extension

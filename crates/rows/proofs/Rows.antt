@@ -1,5 +1,5 @@
 -- The rows of a product: where one begins, one row, four at once, and all of them.
-use Rattle.std.proofs.Common.{◌≡◌, ℕ, zero, suc, ◌+◌, ◌-◌, ◌*◌, ◌%◌, ◌^◌, ◌<◌, ◌≤◌, true, false, List, ◌++◌, length, get_or, drop, set, ℤ, pos, negsuc, sym, refl, ap, ◌∙◌, arith, le-ltb}
+use Rattle.std.proofs.Common.{◌≡◌, ℕ, zero, suc, ◌+◌, ◌-◌, ◌*◌, ◌%◌, ◌^◌, ◌<◌, ◌≤◌, true, false, List, ◌++◌, length, get_or, take, drop, set, get_or-take, ℤ, pos, negsuc, sym, refl, ap, ◌∙◌, arith, le-ltb}
 use mathlib.Core.Bool.{false≢true}
 use native.Mathlib.Nat as Nat
 use lib.ListN.{get_or-append}
@@ -28,18 +28,25 @@ unfolding start
 start_most d j (pos n) = omega arith
 start_most d j (negsuc n) = omega arith
 
+pub begins_most : (d j : ℕ) (z : ℤ) {r : ℕ} → r ≡ start d z j → r ≤ d + d
+begins_most d j z e = omega (arith, e, start_most d j z)
+
 -- ---- one row, over what the function f gives
 
 abbrev over_cell : (ℕ → ℕ) → ℕ → ℕ → (ℕ → ℕ) → ℕ → ℕ
 over_cell f m at x k = (f k + m * x (at + k)) % 2 ^ 64
 
+unwritten : (f : ℕ → ℕ) (d : ℕ) (s₀ : List ℕ) (k : ℕ) {s : List ℕ} → s ≡ filled f k (take d s₀) → k < d → get_or s k 0 ≡ get_or s₀ k 0
+unwritten f d s₀ k e b = ap (λ l. get_or l k 0) e ∙ filled-behind f k (take d s₀) 0 k (Nat.le_refl k) ∙ get_or-take d s₀ k 0 b
+
 abbrev pub row_cell : ℕ → ℕ → (ℕ → ℕ) → List ℕ → ℕ → ℕ
 row_cell m at x s = over_cell (λ k. get_or s k 0) m at x
 
 module _ (m at : ℕ) (x : ℕ → ℕ) where
-  pub row_turn : (s₀ s : List ℕ) (k v : ℕ) → s ≡ filled (row_cell m at x s₀) k s₀ → k < length s₀ → v ≡ row_cell m at x s k → set s k v ≡ filled (row_cell m at x s₀) (k + 1) s₀
-  row_turn s₀ s k v e h w =
-      filled-turn (row_cell m at x s₀) k s₀ e (w ∙ ap (λ y. (y + m * x (at + k)) % 2 ^ 64) (ap (λ l. get_or l k 0) e ∙ filled-behind (row_cell m at x s₀) k s₀ 0 k (Nat.le_refl k))) h
+  -- a turn of the loop, over the first d sums of s₀
+  pub row_turn : (d : ℕ) (s₀ s : List ℕ) (k v : ℕ) → s ≡ filled (row_cell m at x s₀) k (take d s₀) → k < d → k < length (take d s₀) → v ≡ row_cell m at x s k
+      → set s k v ≡ filled (row_cell m at x s₀) (k + 1) (take d s₀)
+  row_turn d s₀ s k v e b h w = filled-turn (row_cell m at x s₀) k (take d s₀) e (w ∙ ap (λ y. (y + m * x (at + k)) % 2 ^ 64) (unwritten (row_cell m at x s₀) d s₀ k e b)) h
 
   module _ (d : ℕ) where
     pub row_done : (s : List ℕ) → filled (row_cell m at x s) d s ≡ add_row d m at x s
@@ -67,15 +74,14 @@ module _ (m0 at0 m1 at1 m2 at2 m3 at3 : ℕ) (x : ℕ → ℕ) where
       ∙ ap (add_row d m3 at3 x) (row_over m2 at2 x d _ s ∙ ap (add_row d m2 at2 x) (row_over m1 at1 x d (row_cell m0 at0 x s) s ∙ ap (add_row d m1 at1 x) (row_done m0 at0 x d s)))
 
   -- a turn of the loop
-  pub four-turn : (s₀ s : List ℕ) (k first second third fourth : ℕ) → s ≡ filled (four_cell s₀) k s₀ → k < length s₀
+  pub four-turn : (d : ℕ) (s₀ s : List ℕ) (k first second third fourth : ℕ) → s ≡ filled (four_cell s₀) k (take d s₀) → k < d → k < length (take d s₀)
       → first ≡ (get_or s k 0 + m0 * x (at0 + k)) % 2 ^ 64 → second ≡ (first + m1 * x (at1 + k)) % 2 ^ 64
       → third ≡ (second + m2 * x (at2 + k)) % 2 ^ 64 → fourth ≡ (third + m3 * x (at3 + k)) % 2 ^ 64
-      → set s k fourth ≡ filled (four_cell s₀) (k + 1) s₀
-  four-turn s₀ s k first second third fourth e h one two three four =
+      → set s k fourth ≡ filled (four_cell s₀) (k + 1) (take d s₀)
+  four-turn d s₀ s k first second third fourth e b h one two three four =
       let over : ℕ → ℕ → ℕ → ℕ = λ m at y. (y + m * x (at + k)) % 2 ^ 64 in
-      filled-turn (four_cell s₀) k s₀ e
-      (four ∙ ap (over m3 at3) (three ∙ ap (over m2 at2) (two ∙ ap (over m1 at1)
-      (one ∙ ap (over m0 at0) (ap (λ l. get_or l k 0) e ∙ filled-behind (four_cell s₀) k s₀ 0 k (Nat.le_refl k))))))
+      filled-turn (four_cell s₀) k (take d s₀) e
+      (four ∙ ap (over m3 at3) (three ∙ ap (over m2 at2) (two ∙ ap (over m1 at1) (one ∙ ap (over m0 at0) (unwritten (four_cell s₀) d s₀ k e b)))))
       h
 
 -- ---- all rows, in c strands
@@ -108,3 +114,7 @@ module _ (c d : ℕ) (f : List ℤ) (x x' : ℕ → ℕ) (e : (y : ℕ) → y < 
   unfolding add_rows
   rows_front zero s = refl
   rows_front (suc n) s = row_front _ _ (add_rows c d f x n s) (start_most (d * c) (n * c) (get_or f n (pos 0))) ∙ ap (next_row c d f x' n) (rows_front n s)
+
+-- the rows of four coefficients that are there, and of one
+pub row_inside : (c d j : ℕ) → 0 < c → j < d → j * c < d * c
+row_inside c d j some h = Nat.mul-lt-mul_of_pos_right {m = j} {n = d} h some

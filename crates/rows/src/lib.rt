@@ -3,7 +3,7 @@
 // number k of strand r stands at place k·c + r, so that a row of all strands is one row, c times as long.
 #![tactic(auto)]
 
-ghost use Rattle.std.specs.Prelude.{◌≡◌, ℕ, ◌+◌, ◌*◌, ◌%◌, ◌^◌, ◌<◌, ◌≤◌, List, length};
+ghost use Rattle.std.specs.Prelude.{◌≡◌, ◌+◌, ◌*◌, ◌%◌, ◌^◌, ◌<◌, ◌≤◌, length, unsigned_abs};
 ghost use Rattle.protocol.specs.Basic.{Provided};
 ghost use Rattle.protocol.specs.Element.{width, residue};
 ghost use Rattle.protocol.specs.Layout.{rows_most, rows_width};
@@ -11,7 +11,6 @@ ghost use Rattle.residues.specs.Lists.{spliced};
 ghost use Rattle.rows.specs.Rows.{turned, narrowed, start, add_row, add_rows, add_four, Rows, Residues, Preparable, Prepared};
 
 use protocol::{ROWS, ROWS_WIDTH, Residue, WIDTH};
-use ranges::tests;
 
 // The residues that stand at the places 0 to 3d − 1 of a, going round by X^d = −1, written to the front of y: each residue, its negative, and
 // the residue again.
@@ -19,11 +18,11 @@ fn write_rows(q: Residue, d: usize, a: &[Residue], y: &mut [u64])
     requires { (d ≤ rows_width) × (d ≤ length a.now) × (3 * d ≤ length y.old) }
     ensures { Provided (Residues q d a.now) (y.new ≡ spliced (turned q d (residue a.now)) 0 (3 * d) y.old) }
 {
-    for k in 0..d {
-        let x = a[k];
-        y[k] = x;
-        y[d + k] = residues::negated(q, x);
-        y[2 * d + k] = x;
+    residues::store(d, a, 0, y);
+    residues::store(d, a, 2 * d, y);
+    let second = &mut y[d..2 * d];
+    for (k, x) in second.iter_mut().enumerate() {
+        *x = residues::negated(q, a[k]);
     }
 }
 
@@ -45,69 +44,55 @@ pub fn prepare(q: Residue, d: u32, a: &[Residue], x: &mut [u64])
     write_rows(q, n, a, x);
 }
 
-// m·y, y being below 2^32.
-fn scaled(m: u32, y: u64) -> u64
-    ensures { result ≡ m * (y % 2 ^ 32) }
-{
-    (m as u64) * (y % 4294967296)
-}
-
-// s + m·y modulo 2^64
+// s + m·y modulo 2^64, y being read modulo 2^32.
 fn plus_scaled(s: u64, m: u32, y: u64) -> u64
     ensures { result ≡ (s + m * (y % 2 ^ 32)) % 2 ^ 64 }
 {
-    std::num::wrapping_add_u64(s, scaled(m, y))
+    s.wrapping_add(u64::from(m).wrapping_mul(y % 4294967296))
 }
 
-// One row: m times the d residues from place `at` on.
-fn add_row(d: usize, m: u32, at: usize, x: &[u64], sums: &mut [u64])
-    requires { (at + d ≤ length x.now) × (d ≤ length sums.old) }
-    ensures { sums.new ≡ add_row d m at (narrowed x.now) sums.old }
+// A row of a product: as many times what stands from a place on.
+#[derive(Clone, Copy)]
+struct Row {
+    times: u32,
+    at: usize,
+}
+
+// The row of a coefficient, `at` being its place in a strand times their number: a negative one takes the row n places before, which has the other sign.
+fn row_of(n: usize, c: i32, at: usize) -> Row
+    requires { (n ≤ rows_width) × (at < n) }
+    ensures { (result.times ≡ unsigned_abs c) × (result.at ≡ start n c at) }
 {
-    let mut k: usize = 0;
-    while k < d {
-        sums[k] = plus_scaled(sums[k], m, x[at + k]);
-        k += 1;
+    Row {
+        times: c.unsigned_abs(),
+        at: if c < 0 { n - at } else { n + n - at },
+    }
+}
+
+// One row of d sums.
+fn add_row(d: usize, row: Row, x: &[u64], sums: &mut [u64])
+    requires { (row.at + d ≤ length x.now) × (d ≤ length sums.old) }
+    ensures { sums.new ≡ add_row d row.times row.at (narrowed x.now) sums.old }
+{
+    let front = &mut sums[..d];
+    for (k, s) in front.iter_mut().enumerate() {
+        *s = plus_scaled(*s, row.times, x[row.at + k]);
     }
 }
 
 // Four rows at a time.
-fn add_four(
-    d: usize,
-    m0: u32,
-    at0: usize,
-    m1: u32,
-    at1: usize,
-    m2: u32,
-    at2: usize,
-    m3: u32,
-    at3: usize,
-    x: &[u64],
-    sums: &mut [u64],
-)
-    requires { (at0 + d ≤ length x.now) × (at1 + d ≤ length x.now) × (at2 + d ≤ length x.now) × (at3 + d ≤ length x.now) × (d ≤ length sums.old) }
-    ensures { sums.new ≡ add_row d m3 at3 (narrowed x.now)
-        (add_row d m2 at2 (narrowed x.now) (add_row d m1 at1 (narrowed x.now) (add_row d m0 at0 (narrowed x.now) sums.old))) }
+fn add_four(d: usize, r0: Row, r1: Row, r2: Row, r3: Row, x: &[u64], sums: &mut [u64])
+    requires { (r0.at + d ≤ length x.now) × (r1.at + d ≤ length x.now) × (r2.at + d ≤ length x.now) × (r3.at + d ≤ length x.now) × (d ≤ length sums.old) }
+    ensures { sums.new ≡ add_row d r3.times r3.at (narrowed x.now)
+        (add_row d r2.times r2.at (narrowed x.now) (add_row d r1.times r1.at (narrowed x.now) (add_row d r0.times r0.at (narrowed x.now) sums.old))) }
 {
-    let mut k: usize = 0;
-    while k < d {
-        let first = plus_scaled(sums[k], m0, x[at0 + k]);
-        let second = plus_scaled(first, m1, x[at1 + k]);
-        let third = plus_scaled(second, m2, x[at2 + k]);
-        sums[k] = plus_scaled(third, m3, x[at3 + k]);
-        k += 1;
+    let front = &mut sums[..d];
+    for (k, s) in front.iter_mut().enumerate() {
+        let first = plus_scaled(*s, r0.times, x[r0.at + k]);
+        let second = plus_scaled(first, r1.times, x[r1.at + k]);
+        let third = plus_scaled(second, r2.times, x[r2.at + k]);
+        *s = plus_scaled(third, r3.times, x[r3.at + k]);
     }
-}
-
-// Where the row of a coefficient begins, `at` being its place in a strand times their number: a negative one takes the row n places before, which has the other sign.
-fn row_start(n: usize, c: i32, at: usize) -> usize
-    requires { (n ≤ rows_width) × (at < n) }
-    ensures { result ≡ start n c at }
-{
-    if c < 0 {
-        return n - at;
-    }
-    n + n - at
 }
 
 // The rows of the four coefficients from coefficient j on, in all strands.
@@ -116,43 +101,11 @@ fn add_block(strands: usize, d: usize, j: usize, f: &[i32], x: &[u64], sums: &mu
     ensures { sums.new ≡ add_four strands d f.now (narrowed x.now) j sums.old }
 {
     let n = d * strands;
-    let at0 = j * strands;
-    let at1 = at0 + strands;
-    let at2 = at1 + strands;
-    let at3 = at2 + strands;
-    let c0 = f[j];
-    let c1 = f[j + 1];
-    let c2 = f[j + 2];
-    let c3 = f[j + 3];
-    add_four(
-        n,
-        tests::magnitude(c0),
-        row_start(n, c0, at0),
-        tests::magnitude(c1),
-        row_start(n, c1, at1),
-        tests::magnitude(c2),
-        row_start(n, c2, at2),
-        tests::magnitude(c3),
-        row_start(n, c3, at3),
-        x,
-        sums,
-    );
-}
-
-// The rows from coefficient `done` on, those before it being added.
-fn add_rest(strands: usize, d: usize, done: usize, f: &[i32], x: &[u64], sums: &mut [u64])
-    requires { Rows strands d (length f.now) (length x.now) (length sums.old) × (done ≤ d) }
-    ensures { (s : List ℕ) → sums.old ≡ add_rows strands d f.now (narrowed x.now) done s →
-        sums.new ≡ add_rows strands d f.now (narrowed x.now) d s }
-{
-    let mut j: usize = done;
-    while j < d {
-        let c = f[j];
-        let n = d * strands;
-        let at = j * strands;
-        add_row(n, tests::magnitude(c), row_start(n, c, at), x, sums);
-        j += 1;
-    }
+    let r0 = row_of(n, f[j], j * strands);
+    let r1 = row_of(n, f[j + 1], (j + 1) * strands);
+    let r2 = row_of(n, f[j + 2], (j + 2) * strands);
+    let r3 = row_of(n, f[j + 3], (j + 3) * strands);
+    add_four(n, r0, r1, r2, r3, x, sums);
 }
 
 // The rows of all coefficients of f.
@@ -160,12 +113,13 @@ fn add_rows(strands: usize, d: usize, f: &[i32], x: &[u64], sums: &mut [u64])
     requires { Rows strands d (length f.now) (length x.now) (length sums.old) }
     ensures { sums.new ≡ add_rows strands d f.now (narrowed x.now) d sums.old }
 {
-    let mut j: usize = 0;
-    while j + 4 <= d {
-        add_block(strands, d, j, f, x, sums);
-        j += 4;
+    let n = d * strands;
+    for i in 0..d / 4 {
+        add_block(strands, d, 4 * i, f, x, sums);
     }
-    add_rest(strands, d, j, f, x, sums);
+    for j in d / 4 * 4..d {
+        add_row(n, row_of(n, f[j], j * strands), x, sums);
+    }
 }
 
 // Adds the rows of f, x being what they read, modulo 2^32: in each strand the product of f with the strand of the element that is prepared at the front of x.

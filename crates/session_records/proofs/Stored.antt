@@ -1,12 +1,13 @@
 -- Records in slices: what a slice holds after a record was written to it.
 use mathlib.Core.Path.{◌≡◌, sym, ap, ◌∙◌}
 use mathlib.Core.Logic.{◌≢◌}
-use mathlib.Core.List.{List, ◌++◌, append-nil}
+use mathlib.Core.List.{List, ◌++◌, map, append-nil}
 use Prim.Native.Nat.{ℕ, ◌+◌, ◌<◌, ◌≤◌}
 use native.Mathlib.Omega.{arith}
 use borrow.Author.Tests.{eq-eqb, ne_eqb, lt-ltb, le-ltb}
-use lib.ListN.{length, get_or, drop}
-use lib.Seq.{drop-length}
+use lib.ListN.{length, get_or, take, drop, length-drop}
+use lib.Seq.{drop-length, get_or-drop, get_or-take, length-take-le}
+use borrow.Rule.Slice.PartMut.{put_mid}
 use Rattle.protocol.specs.declared.Session.{Session}
 use Rattle.protocol.specs.Basic.{tabulate, choose}
 use Rattle.protocol.specs.Element.{zeros}
@@ -16,15 +17,16 @@ use Rattle.protocol.proofs.Reading.{tabulate_length, tabulate_at, tabulate_ext, 
 use Rattle.residues.specs.Lists.{spliced}
 use Rattle.residues.proofs.Fill.{zeros-length, zeros_at}
 use Rattle.residues.proofs.Splice.{spliced_ext, spliced-twice, spliced_same, spliced-length, spliced-behind}
-use Rattle.session_records.specs.Records.{record_width, claims_of, head_of, number_of, numbers_of, record_stored}
+use Rattle.slices.specs.Slices.{capped}
+use Rattle.session_records.specs.Records.{record_width, challenges_of, claims_of, head_of, number_of, numbers_of, record_stored}
 
 module _ (r : Session) where
   pub stays : (t : List ℕ) → length t ≢ record_width → t ≡ record_stored r t
-  unfolding record_stored record_width has_length choose
+  unfolding record_stored has_length choose
   stays t h = sym (ap (λ b. choose b (numbers_of r) t) (ne_eqb _ _ h))
 
   pub stored : (t : List ℕ) → length t ≡ record_width → record_stored r t ≡ numbers_of r
-  unfolding record_stored record_width has_length choose
+  unfolding record_stored has_length choose
   stored t h = ap (λ b. choose b (numbers_of r) t) (eq-eqb _ _ h)
 
   pub head-number : (k : ℕ) → k < 7 → get_or (head_of r) k 0 ≡ number_of r k
@@ -79,15 +81,31 @@ module _ (r : Session) where
       written_long : length written ≡ record_width
       written_long = spliced-length _ 7 8 before (omega (arith, before_long)) (omega (arith, before_long)) ∙ before_long
 
+  -- so written by parts
+  pub parts-put : (first wide t : List ℕ) → first ≡ head_of r → wide ≡ r.challenges → length wide ≡ 8 → r.claims ≡ claims_of t → length t ≡ record_width
+      → put_mid 7 8 (first ++ drop 7 t) wide ≡ record_stored r t
+  unfolding spliced head_of
+  parts-put first wide t e w long own h =
+      (λ i. take 7 (first ++ drop 7 t) ++ (sym (tabulate_own 8 wide 0 long) i ++ drop 8 (drop 7 (first ++ drop 7 t))))
+      ∙ (λ i. spliced (λ k. get_or (w i) k 0) 7 8 (sym (tabulate_own 7 first 0 (ap length e)) i ++ drop 7 t))
+      ∙ front-stored first t e own h
+
   -- what stood in the slice does not matter
   pub stored-over : (t u : List ℕ) → length t ≡ record_width → length u ≡ record_width → record_stored r t ≡ record_stored r u
   stored-over t u h g = stored t h ∙ sym (stored u g)
 
   pub numbers-length : length (numbers_of r) ≡ record_width
-  unfolding numbers_of record_width
+  unfolding numbers_of
   numbers-length = tabulate_length record_width (number_of r)
 
 -- the claims in a slice of zeros
 pub claims-zero : claims_of (zeros record_width) ≡ zeros rows_width
 unfolding claims_of
 claims-zero = tabulate_ext rows_width (λ k _. zeros_at record_width (15 + k) ∙ sym (zeros_at rows_width k)) ∙ tabulate_own rows_width (zeros rows_width) 0 (zeros-length rows_width)
+
+-- the challenges in a slice, one by one
+pub challenges-read : (t : List ℕ) → length t ≡ record_width → map capped (take 8 (drop 7 t)) ≡ challenges_of t
+unfolding challenges_of tabulate
+challenges-read t h =
+    ap (map capped) (sym (tabulate_own 8 (take 8 (drop 7 t)) 0 (length-take-le 8 (drop 7 t) (omega (arith, length-drop 7 t)))))
+    ∙ ap (map capped) (tabulate_ext 8 {f = λ k. get_or (take 8 (drop 7 t)) k 0} {g = λ k. get_or t (7 + k) 0} (λ k l. get_or-take 8 (drop 7 t) k 0 l ∙ get_or-drop 7 t k 0))

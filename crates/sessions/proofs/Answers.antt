@@ -1,5 +1,5 @@
 -- What the session's moves leave in a slice for a record, and what they answer.
-use mathlib.Core.Path.{◌≡◌, refl, sym, ap, ◌∙◌}
+use mathlib.Core.Path.{◌≡◌, sym, ap, ◌∙◌}
 use mathlib.Core.Logic.{◌≢◌}
 use mathlib.Core.Bool.{Bool, ◌&&◌}
 use mathlib.Core.List.{List}
@@ -10,7 +10,17 @@ use lib.ListN.{length}
 use Rattle.protocol.specs.declared.Settings.{Settings}
 use Rattle.protocol.specs.declared.Session.{Session}
 use Rattle.protocol.specs.Answers.{Started}
-use Rattle.protocol.specs.Answers.{Moved}
+use Rattle.std.specs.Prelude.{Result, Ok, Err}
+use Rattle.std.specs.Result.{IsErrAnd}
+use Rattle.protocol.specs.declared.Handed.{Handed}
+use Rattle.protocol.specs.declared.Refusal.{Refusal}
+use Rattle.protocol.specs.declared.Verdict.{Verdict as Says}
+use Rattle.protocol.specs.Answers.{Moved, as_verdict, said}
+use Rattle.protocol.specs.Answers.Verdict.{Silent}
+use Rattle.protocol.specs.Refusal.{number, refusal_of}
+use Rattle.verifier.specs.Records.{moved_with}
+use Rattle.verifier_refusals.specs.declared.Progress.{Progress}
+use Rattle.verifier_refusals.proofs.Numbers.{number_some}
 use Rattle.protocol.specs.Basic.{granted}
 use Rattle.protocol.specs.Layout.{item_cells}
 use Rattle.protocol.specs.Settings.{settings_refusal, has_length}
@@ -20,7 +30,7 @@ use Rattle.protocol.proofs.Refusals.{first_fails, first_holds, first_only}
 use Rattle.slices.specs.Slices.{lent, values_of}
 use Rattle.protocol.specs.Session.{verdict_number}
 use Rattle.slices.proofs.Lent.{lent_stops, lent_passes, lent_fits, lent_allowed, kept}
-use Rattle.session_records.specs.Records.{record_width, session_of, flagged, record_stored}
+use Rattle.session_records.specs.Records.{record_width, claims_of, session_of, flagged, record_stored}
 use Rattle.sessions.specs.Promises.{start_number, start_exit, StartStored, move_number, move_exit, move_verdict, MoveStored, Answered}
 
 -- ---- the start
@@ -51,8 +61,8 @@ module _ (S : Settings) (C rec : List ℕ) (n : ℕ) (e : n ≡ lent S (has_leng
 
 module _ (fits : Bool) (m : Moved) (rec : List ℕ) where
   -- a slice that holds no record
-  pub move_nowhere : length rec ≢ record_width → MoveStored fits m rec 7 rec 0
-  unfolding move_exit move_verdict
+  pub move_nowhere : length rec ≢ record_width → MoveStored fits m rec 7 rec (verdict_number Silent)
+  unfolding move_exit move_verdict verdict_number
   move_nowhere h = record {
     refusal = seven;
     record_exit = sym (granted_refused _ _ _ refused);
@@ -78,6 +88,11 @@ module _ (fits : Bool) (m : Moved) (rec : List ℕ) where
         let refused : move_number fits m rec ≢ 0 = λ z. h (same ∙ z) in
         record { refusal = same; record_exit = sym (granted_refused _ _ _ refused); verdict_exit = sym (granted_refused _ _ _ refused) }
 
+    pub move_failed : (x : Result Says Refusal) (n : ℕ) → IsErrAnd x (λ r. number r ≡ n) → n ≡ lent (session_of rec).settings (fits && flagged rec) 0 → MoveStored fits m rec (refusal_of x) rec (verdict_number (as_verdict x))
+    unfolding verdict_number
+    move_failed (Ok v) n e is = elim e [ ]
+    move_failed (Err r) n e is = move_refused (number r) (e ∙ is) (number_some r)
+
     pub move_made : (n : ℕ) → n ≡ lent (session_of rec).settings (fits && flagged rec) 0 → n ≡ 0
         → (m' : Moved) (r : ℕ) (rec' : List ℕ) (v' : ℕ) → m' ≡ m → Answered m' rec r rec' v' → MoveStored fits m rec r rec' v'
     unfolding move_exit move_verdict
@@ -89,10 +104,23 @@ module _ (fits : Bool) (m : Moved) (rec : List ℕ) where
           verdict_exit = a.verdict_exit ∙ ap (λ (x : Moved). granted x.refusal (verdict_number x.verdict) 0) q ∙ ap (λ k. granted k (verdict_number m.verdict) 0) same;
         }
 
--- what a move answers that is refused, and one that is not
-module _ (m : Moved) (rec : List ℕ) where
-  pub answer_refused : m.refusal ≢ 0 → Answered m rec m.refusal rec 0
-  answer_refused h = record { refusal = refl; record_exit = sym (granted_refused _ _ _ h); verdict_exit = sym (granted_refused _ _ _ h) }
+-- what a move hands back that is refused, and one that is not
+module _ (h : Handed Says Progress) (rec : List ℕ) where
+  abbrev m : Moved
+  m = moved_with h (claims_of rec)
 
-  pub answer_made : (rec' : List ℕ) (v' : ℕ) → m.refusal ≡ 0 → rec' ≡ record_stored m.next rec → v' ≡ verdict_number m.verdict → Answered m rec 0 rec' v'
-  answer_made rec' v' h p v = record { refusal = sym h; record_exit = p ∙ sym (granted-zero _ _ _ h); verdict_exit = v ∙ sym (granted-zero _ _ _ h) }
+  pub answer_refused : (x : Result Says Refusal) → IsErrAnd x (λ r. h.said ≡ Err r) → Answered m rec (refusal_of x) rec (verdict_number (as_verdict x))
+  unfolding verdict_number
+  answer_refused (Ok v) e = elim e [ ]
+  answer_refused (Err r) e =
+      let no : refusal_of h.said ≢ 0 = λ z. number_some r (sym (ap refusal_of e) ∙ z) in
+      record { refusal = ap refusal_of (sym e); record_exit = sym (granted_refused _ _ _ no); verdict_exit = sym (granted_refused _ _ _ no) }
+
+  pub answer_made : (v : Says) → h.said ≡ Ok v → (rec' : List ℕ) → rec' ≡ record_stored m.next rec → Answered m rec 0 rec' (verdict_number (said v))
+  answer_made v e rec' p =
+      let none : refusal_of h.said ≡ 0 = ap refusal_of e in
+      record {
+        refusal = sym none;
+        record_exit = p ∙ sym (granted-zero _ _ _ none);
+        verdict_exit = ap (λ y. verdict_number (as_verdict y)) (sym e) ∙ sym (granted-zero _ _ _ none);
+      }

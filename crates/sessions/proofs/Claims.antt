@@ -25,7 +25,9 @@ use Rattle.sizes.proofs.Limits.{degree_most}
 use Rattle.slices.specs.Slices.{values_of, polynomial_of}
 use Rattle.session_records.specs.Records.{record_width, claims_at, claims_of, record_stored}
 use Rattle.session_records.proofs.Stored.{stored-over}
-use Rattle.verifier.specs.declared.Said.{Said}
+use Rattle.protocol.specs.declared.Handed.{Handed}
+use Rattle.protocol.specs.declared.Verdict.{Verdict as Says}
+use Rattle.verifier_refusals.specs.declared.Progress.{Progress}
 use Rattle.verifier.specs.Records.{moved_with}
 use Rattle.verifier_refusals.specs.Lent.{lent_rows, lent_polynomial, RowsLent}
 use Rattle.sessions.specs.Promises.{Answered}
@@ -63,7 +65,7 @@ module _ (t : List ℕ) (long : length t ≡ record_width) where
             ∙ get_or-append q rest 0 k (omega arith)
 
     -- a move that wrote its next claims, which a refused one leaves as they are, and whose answer was then stored
-    pub answered_lent : (said : Said) (m : Moved) → moved_with said q ≡ m → (m.refusal ≢ 0 → m.next.claims ≡ claims_of t) → (n : ℕ) (t' : List ℕ) (v : ℕ)
+    pub answered_lent : (said : Handed Says Progress) (m : Moved) → moved_with said q ≡ m → (m.refusal ≢ 0 → m.next.claims ≡ claims_of t) → (n : ℕ) (t' : List ℕ) (v : ℕ)
         → let w = put_mid claims_at (length t - claims_at) t q in Answered (moved_with said (claims_of w)) w n t' v → Answered m t n t' v
     answered_lent said m is same n t' v a = record {
       refusal = a.refusal ∙ ap (λ (x : Moved). x.refusal) moved;

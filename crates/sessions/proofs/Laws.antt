@@ -20,23 +20,7 @@ use Rattle.protocol.specs.Element.{zeros}
 use Rattle.protocol.specs.Layout.{rows_width}
 use Rattle.protocol.specs.Settings.{settings_refusal, exponent}
 use Rattle.protocol.specs.Settings as S
-use Rattle.protocol.specs.Session.{
-  slots,
-  opened,
-  blank,
-  start_refusal,
-  start,
-  shut,
-  session_round_refusal,
-  advanced,
-  session_round_holds,
-  round,
-  session_end_refusal,
-  end,
-  refused_move,
-  session_end_holds,
-  verdict,
-}
+use Rattle.protocol.specs.Session.{opened, blank, start_refusal, start, shut, session_round_refusal, advanced, session_round_holds, round, session_end_refusal, end, refused_move, session_end_holds, verdict}
 use Rattle.protocol.proofs.Tests.{first_zero, unless-zero, and_split}
 use Rattle.protocol.proofs.Inputs.{settings-valid}
 use Rattle.protocol.proofs.Rows.{at_rows-length}
@@ -192,7 +176,7 @@ zero_small : (k : ℕ) → get_or (zeros 8) k 0 < 2 ^ 32
 zero_small k = omega (arith, zeros_at 8 k)
 
 pub start-whole : (S : Settings) (C : List ℕ) → Whole (start S C).next
-unfolding start start_refusal granted opened blank slots
+unfolding start start_refusal granted opened blank
 start-whole S C = go (start_refusal S C) refl
   where
     go : (n : ℕ) → start_refusal S C ≡ n → Whole (granted n (opened S C) blank)

@@ -52,7 +52,8 @@ fn place_rows(d: usize, rows: usize, t: &[Residue], out: &mut [Residue])
     }
 }
 
-// Writes the elements of the rows by value to a flat table from place `at` on.
+// Writes the elements of the rows by value to a flat table from place `at` on. (Not one function with the last: what stays as it was differs, the places between the
+// rows there, what is before and behind here.)
 fn lay_rows(d: usize, rows: usize, a: &[Residue], at: usize, out: &mut [Residue])
     requires { at ≤ 2 * rows_width }
     ensures { Provided ((d ≤ width) × (rows ≤ rows_most) × (length a.now ≡ rows_width) × (at + rows * d ≤ length out.old))
@@ -80,7 +81,7 @@ pub fn residues(settings: Settings, t: &[Residue]) -> Item
 pub fn wholes(d: u32, t: &[i32]) -> [i32; WIDTH]
     ensures { Provided (d ≤ width) (Provided (length t.now ≡ d) (result ≡ padded_signed d t.now)) }
 {
-    elements::signed_element_at(d, t, 0)
+    elements::element_at(d, t, 0)
 }
 
 // Writes an element of each row to a slice of rows·d numbers.
@@ -93,7 +94,7 @@ pub fn store_residues(settings: Settings, a: Item, out: &mut [Residue])
 pub fn store_wholes(d: u32, a: [i32; WIDTH], out: &mut [i32])
     ensures { Provided (d ≤ width) (Provided (length out.old ≡ d) (out.new ≡ take d a)) }
 {
-    elements::store_signed(d as usize, &a, out);
+    residues::store(d as usize, &a, 0, out);
 }
 
 // Writes the three items of a round polynomial one after the other to a slice of 3·rows·d numbers.

@@ -1,5 +1,4 @@
 -- Strands of a woven element, one more at a time, and what stands for the elements of rows that are read from a table.
-use mathlib.Core.Logic.{◌≢◌}
 use mathlib.Core.Path.{◌≡◌, refl, sym, ap, ◌∙◌, subst}
 use mathlib.Core.Bool.{Bool, true, false}
 use mathlib.Core.List.{List}
@@ -10,7 +9,7 @@ use native.Mathlib.Omega.{arith}
 use lib.IntN.{pos, nat_abs, ◌+ℤ◌}
 use lib.ListN.{length, get_or, set, take, drop}
 use lib.Seq.{get_or-set_same, get_or-set_other}
-use Rattle.protocol.specs.Element.{Element, width, modulo, around, residue, residue_at, plus}
+use Rattle.protocol.specs.Element.{Element, width, modulo, residue, residue_at, plus}
 use Rattle.protocol.specs.Opening.{second}
 use Rattle.protocol.proofs.Agreement.{Same}
 use Rattle.protocol.proofs.Modulo.{modulo-lt}
@@ -19,7 +18,6 @@ use Rattle.residues.proofs.Parts.{tail_at, tail-length}
 use Rattle.residues.proofs.Around.{around_ext}
 use Rattle.half_sums.specs.Halves.{size_of, key_sum_at, keys_of, KeyAt, KeySum}
 use Rattle.rows.specs.Rows.{woven, turned, Residues, Prepared}
-use Rattle.rows.proofs.Extension.{woven_at}
 use Rattle.strands.specs.Strands.{StrandIn, Woven, KeyGiven, KeyRows}
 
 -- ---- the numbers of a strand, one after the other

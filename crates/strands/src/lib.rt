@@ -19,8 +19,8 @@ fn weave(strands: usize, r: usize, d: usize, a: &[Residue], k: &mut [Residue])
     if a.len() < d {
         return;
     }
-    for j in 0..d {
-        k[j * strands + r] = a[j];
+    for (j, x) in a[..d].iter().enumerate() {
+        k[j * strands + r] = *x;
     }
 }
 
@@ -85,11 +85,9 @@ fn weave_keys(
         (Woven strands strands d (λ r. keys_of sums q d n (G r) i) k.new) }
 {
     let mut from: usize = 0;
-    let mut r: usize = 0;
-    while r < strands {
+    for r in 0..strands {
         weave_key(sums, q, d, n, i, strands, r, &g[from..], a, k);
         from = further(from, stride, g.len());
-        r += 1;
     }
 }
 

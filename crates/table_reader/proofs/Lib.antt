@@ -1,4 +1,3 @@
-pub mod Cuts
 pub mod Narrow
 pub mod Refuses
 pub mod Whole

@@ -1,21 +1,52 @@
 -- Refusals 8, 9 and 10 of the values of a text.
 --
+--   same-number       two refusals of one number are one
 --   untested          a table that a refusal does not test
 --   tested-..         the test of a refusal, by its number
 --   entries-tested    the three tests, one after the other
-use mathlib.Core.Path.{◌≡◌, sym, ap, ◌∙◌}
+use mathlib.Core.Path.{◌≡◌, refl, sym, ap, ◌∙◌}
 use mathlib.Core.Bool.{Bool, true, and-true}
 use mathlib.Core.List.{List, [], ◌∷◌, map}
 use Prim.Native.Nat.{ℕ}
 use borrow.Author.Tests.{eq-eqb, ne_eqb}
+use lib.Dec.{eqb}
 use lib.IntN.{ℤ}
 use Rattle.protocol.specs.declared.Settings.{Settings}
+use Rattle.protocol.specs.declared.Refusal.{Refusal}
+use Rattle.protocol.specs.declared.Refusal.TheVariants.{Long, Text, Degree, Depth, Modulus, Bound, Size, Residue, Tall, Challenge, Turn, Twin, Branch, Growth, Slack, Rows}
+use Rattle.protocol.specs.Refusal.{number}
 use Rattle.protocol.specs.Basic.{choose, every, first, unless}
 use Rattle.protocol.specs.Settings.{all_below, all_within, exponents}
 use Rattle.text_format.specs.Text.{value_limit, narrow_limit, unsigned, entries_refusal}
 use Rattle.text_parts.specs.Parts.{tested_by}
 use Rattle.text_parts.proofs.Exactly.{and_assoc}
 use Rattle.table_reader.specs.Cut.{cut_tables, tests, passes, all_pass}
+
+-- a refusal is known by its number
+named : ℕ → Refusal
+named n = choose (eqb n 1) Long (choose (eqb n 2) Text (choose (eqb n 3) Degree (choose (eqb n 4) Depth (choose (eqb n 5) Modulus (choose (eqb n 6) Bound (choose (eqb n 7) Size (choose (eqb n 8) Residue (choose (eqb n 9) Tall (choose (eqb n 10) Challenge (choose (eqb n 11) Turn (choose (eqb n 12) Twin (choose (eqb n 13) Branch (choose (eqb n 14) Growth (choose (eqb n 15) Slack Rows))))))))))))))
+
+named-number : (r : Refusal) → named (number r) ≡ r
+unfolding named choose
+named-number Long = refl
+named-number Text = refl
+named-number Degree = refl
+named-number Depth = refl
+named-number Modulus = refl
+named-number Bound = refl
+named-number Size = refl
+named-number Residue = refl
+named-number Tall = refl
+named-number Challenge = refl
+named-number Turn = refl
+named-number Twin = refl
+named-number Branch = refl
+named-number Growth = refl
+named-number Slack = refl
+named-number Rows = refl
+
+pub same-number : (a b : Refusal) → number a ≡ number b → a ≡ b
+same-number a b e = sym (named-number a) ∙ ap named e ∙ named-number b
 
 module _ (S : Settings) (refusal : ℕ) (vs : List ℤ) where
   pub untested : (k : ℕ) → (tested_by k ≡ refusal → ⊥) → true ≡ passes S refusal k vs

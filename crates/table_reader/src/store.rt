@@ -1,86 +1,77 @@
 // Values of a text, stored in the tables that are lent for them.
-ghost use Rattle.std.specs.Prelude.{◌≡◌, ◌+◌, ◌≤◌, length, map};
+ghost use Rattle.std.specs.Prelude.{◌≡◌, ◌≤◌, length, map, take, drop, ℤ};
 ghost use Rattle.text_format.specs.Text.{value_limit, narrow_limit, unsigned as unsignedOf};
-ghost use Rattle.text_parts.specs.Parts.{tables_of, lengths_of};
-ghost use Rattle.text_parts.specs.Flat.{cut, total};
+ghost use Rattle.text_parts.specs.Parts.{lengths_of};
+ghost use Rattle.text_parts.specs.Flat.{total};
+ghost use Rattle.text_parts.specs.Lent.{tables_lent, Kept};
 ghost use Rattle.table_reader.specs.Cut.{cut_tables, narrowed, narrow_tables};
 
 use protocol::Residue;
-use ranges::tests::magnitude_wide;
 use text_format::NARROW_LIMIT;
+use text_parts::TablesMut;
 
-// A value of a message or a final element. The lines of these parts have no value that is not narrow; such a value would be 0.
-fn narrow(value: i64) -> i32
-    ensures { result ≡ narrowed value }
-{
-    if magnitude_wide(value) > NARROW_LIMIT as u64 {
-        return 0;
-    }
-    value as i32
+// What a table holds for a value of a text.
+trait Held: Copy {
+    ghost held: { ℤ → Self };
+
+    fn held(value: i64) -> Self
+        ensures { result ≡ held value };
 }
 
-// The values from a place on, as many as the table has; the place behind them.
-fn signed(values: &[i64], from: usize, table: &mut [i32]) -> usize
-    requires { from + length table.old ≤ length values.now }
-    ensures { (result ≡ from + length table.old) × (table.new ≡ map narrowed (cut from (length table.old) values.now)) }
-{
-    let mut i: usize = 0;
-    while i < table.len() {
-        table[i] = narrow(values[from + i]);
-        i += 1;
+// A message or a final element. The lines of these parts have no value that is not narrow; such a value would be 0.
+impl Held for i32 {
+    ghost held = { narrowed };
+
+    fn held(value: i64) -> i32 {
+        if value.unsigned_abs() > u64::from(NARROW_LIMIT) {
+            return 0;
+        }
+        value as i32
     }
-    from + table.len()
 }
 
-// The same for residues.
-fn residues(values: &[i64], from: usize, table: &mut [Residue]) -> usize
-    requires { from + length table.old ≤ length values.now }
-    ensures { (result ≡ from + length table.old)
-        × (table.new ≡ map (unsignedOf value_limit) (cut from (length table.old) values.now)) }
-{
-    let mut i: usize = 0;
-    while i < table.len() {
-        table[i] = text_lines::unsigned_wide(values[from + i]);
-        i += 1;
+// Residues.
+impl Held for Residue {
+    ghost held = { unsignedOf value_limit };
+
+    fn held(value: i64) -> Residue {
+        text_lines::unsigned_wide(value)
     }
-    from + table.len()
 }
 
-// The same for challenges.
-fn exponents(values: &[i64], from: usize, table: &mut [u32]) -> usize
-    requires { from + length table.old ≤ length values.now }
-    ensures { (result ≡ from + length table.old)
-        × (table.new ≡ map (unsignedOf narrow_limit) (cut from (length table.old) values.now)) }
-{
-    let mut i: usize = 0;
-    while i < table.len() {
-        table[i] = text_lines::unsigned_narrow(values[from + i]);
-        i += 1;
+// Challenges.
+impl Held for u32 {
+    ghost held = { unsignedOf narrow_limit };
+
+    fn held(value: i64) -> u32 {
+        text_lines::unsigned_narrow(value)
     }
-    from + table.len()
+}
+
+// The first values, as many as the table has; those behind them are left.
+fn fill<'a, T: Held>(values: &'a [i64], table: &mut [T]) -> &'a [i64]
+    requires { length table.old ≤ length values.now }
+    ensures stored { table.new ≡ map T.held (take (length table.old) values.now) }
+    ensures left { result.now ≡ drop (length table.old) values.now }
+{
+    // By index: of a table that is written through `iter_mut` its length alone is known behind the loop.
+    for i in 0..table.len() {
+        table[i] = T::held(values[i]);
+    }
+    &values[table.len()..]
 }
 
 // The values of the seven tables, one table after the other.
-pub fn all(
-    values: &[i64],
-    key: &mut [Residue],
-    message: &mut [i32],
-    commitment: &mut [Residue],
-    rounds: &mut [Residue],
-    challenges: &mut [u32],
-    last: &mut [i32],
-    claims: &mut [Residue],
-)
-    requires { total (lengths_of (tables_of key.old message.old commitment.old rounds.old challenges.old last.old claims.old)) ≤ length values.now }
-    ensures { tables_of key.new message.new commitment.new rounds.new challenges.new
-        last.new claims.new ≡ narrow_tables (cut_tables
-        (lengths_of (tables_of key.old message.old commitment.old rounds.old challenges.old last.old claims.old)) values.now) }
+pub fn all(values: &[i64], tables: &mut TablesMut<'_>)
+    requires { total (lengths_of (tables_lent tables.old)) ≤ length values.now }
+    ensures kept { Kept tables.old tables.new }
+    ensures stored { tables_lent tables.new ≡ narrow_tables (cut_tables (lengths_of (tables_lent tables.old)) values.now) }
 {
-    let after_key = residues(values, 0, key);
-    let after_message = signed(values, after_key, message);
-    let after_commitment = residues(values, after_message, commitment);
-    let after_rounds = residues(values, after_commitment, rounds);
-    let after_challenges = exponents(values, after_rounds, challenges);
-    let after_last = signed(values, after_challenges, last);
-    residues(values, after_last, claims);
+    let after_key = fill(values, tables.key);
+    let after_message = fill(after_key, tables.message);
+    let after_commitment = fill(after_message, tables.commitment);
+    let after_rounds = fill(after_commitment, tables.rounds);
+    let after_challenges = fill(after_rounds, tables.challenges);
+    let after_last = fill(after_challenges, tables.last);
+    fill(after_last, tables.claims);
 }

@@ -6,7 +6,7 @@
 --   stopped       tables that are refused before their text
 --   passed        what holds of tables that are not
 --   wrote         then the text and the output slice decide
-use mathlib.Core.Path.{◌≡◌, refl, sym, ap, ◌∙◌}
+use mathlib.Core.Path.{◌≡◌, refl, sym, ap, subst, ◌∙◌}
 use mathlib.Core.Bool.{Bool, true, ◌&&◌}
 use mathlib.Core.List.{List, [], ◌∷◌, ◌++◌}
 use Prim.Native.Nat.{ℕ, zero, suc, ◌<◌, ◌≤◌}
@@ -33,14 +33,14 @@ module _ (text out : List ℕ) where
   unfolding written overwritten granted
   refused n e = record { answer = sym (ap (λ k. written k text) e); out_exit = sym (ap (λ k. overwritten k text out) e) }
 
-  pub long : text_limit < length text → Output text out (answer 1 0) out
+  pub long : (n : ℕ) → n ≡ 1 → text_limit < length text → Output text out (answer n 0) out
   unfolding output_refusal
-  long h = refused 0 (first_fails 0 _ _ (lt-leb _ _ h))
+  long n is h = subst (λ k. Output text out (answer k 0) out) (sym is) (refused 0 (first_fails 0 _ _ (lt-leb _ _ h)))
 
   module _ (short : length text ≤ text_limit) where
-    pub cramped : length out < length text → Output text out (answer 7 0) out
+    pub cramped : (n : ℕ) → n ≡ 7 → length out < length text → Output text out (answer n 0) out
     unfolding output_refusal
-    cramped h = refused 6 (first_holds 1 _ _ (le-leb _ _ short) ∙ first_fails 6 _ _ (lt-leb _ _ h))
+    cramped n is h = subst (λ k. Output text out (answer k 0) out) (sym is) (refused 6 (first_holds 1 _ _ (le-leb _ _ short) ∙ first_fails 6 _ _ (lt-leb _ _ h)))
 
     pub done : (n : ℕ) (out' : List ℕ) → n ≡ length text → length text ≤ length out → out' ≡ text ++ drop (length text) out → Output text out (answer 0 n) out'
     unfolding output_refusal written overwritten granted

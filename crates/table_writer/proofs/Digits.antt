@@ -1,49 +1,38 @@
 -- How many digits a number has, and its digits from the lowest on.
 --
---   Reached, reached_next   powers of ten that a number is not below
---   ten_next         one power more
---   counted_most     from 10^18 on it has nineteen
+--   counted          the count by the largest power of ten that a number is not below
 --   digits_most      no more than nineteen
 --   field-length     a number and a byte behind it
 --   digit-step       one digit more, before those that are stored
+--   digits_none      none of them
 --   digits_done      all of them
-use mathlib.Core.Path.{◌≡◌, sym, ap, ◌∙◌}
-use mathlib.Core.List.{List, [], ◌∷◌, ◌++◌, append_assoc}
-use Prim.Native.Nat.{ℕ, suc, ◌+◌, ◌*◌, ◌-◌, ◌/◌, ◌%◌, ◌^◌, ◌<◌, ◌≤◌}
-use native.Mathlib.Omega.{arith}
-use native.Mathlib.Numerals.{add-one}
+use Rattle.std.specs.Option.{IfNone, IfSome, unwrap_or}
+use Rattle.std.proofs.Common.{Option, None, Some, ◌≡◌, sym, ap, ◌∙◌, List, [], ◌∷◌, ◌++◌, append_assoc, ℕ, suc, ◌+◌, ◌*◌, ◌-◌, ◌/◌, ◌%◌, ◌^◌, ◌<◌, ◌≤◌, min, arith, add-one, ltb, length, take, drop, set, length-append, take-append-drop, drop_of_length-le}
 use native.Mathlib.Nat as Nat
-use borrow.Author.Tests.{le-ltb}
-use lib.Dec.{ltb}
-use lib.ListN.{length, take, drop, set, length-append}
+use borrow.Author.Tests.{le-ltb, lt-ltb}
+use lib.Seq.{length-take-le, set_split, drop_at}
 use Rattle.text_format.specs.Text.{digit_count, low_digits, decimal}
 use Rattle.protocol.proofs.Tests.{least_first, least_is}
 use Rattle.text_format.proofs.NumeralLaws.{decimal-length}
 use Rattle.table_writer.specs.Put.{field}
-use Rattle.table_writer.proofs.Puts.{drop-set_here}
 
--- the powers of ten below 10^count that n is not below
-abbrev pub Reached : ℕ → ℕ → Type 0
-Reached n count = (i : ℕ) → suc i < count → 10 ^ suc i ≤ n
-
-pub reached_next : (n count : ℕ) → 0 < count → 10 ^ count ≤ n → Reached n (count + 1)
-reached_next n count some h i l = Nat.le_trans (Nat.pow-le-pow_right {n = 10} (omega arith) {i = suc i} {j = count} (omega arith)) h
-
--- a power below the last
-pub ten_next : (count bound : ℕ) → count < 19 → bound ≡ 10 ^ count → (bound * 10 ≡ 10 ^ (count + 1)) × (bound * 10 ≤ 10 ^ 19)
-ten_next count bound h e =
-    let next : bound * 10 ≡ 10 ^ (count + 1) = ap (λ b. b * 10) e ∙ sym (Nat.pow-suc 10 count) ∙ ap (λ k. 10 ^ k) (sym (add-one count)) in
-    (next, omega (arith, next, Nat.pow-le-pow_right {n = 10} (omega arith) {i = count + 1} {j = 19} (omega arith)))
-
--- nineteen digits are all that is kept of a number
-pub counted_most : (n : ℕ) → Reached n 19 → 19 ≡ digit_count n
+-- the powers of ten that a number is not below
+by_power : (n k : ℕ) → (0 < k → 10 ^ k ≤ n) → n < 10 * 10 ^ k → min (k + 1) 19 ≡ digit_count n
 unfolding digit_count
-counted_most n over =
-    sym (ap suc (least_is 18 (λ k. ltb n (10 ^ suc k)) 18 (record {
-      at_most = omega arith;
-      holds = λ l. absurd (omega arith);
-      none_before = λ i l. le-ltb n (10 ^ suc i) (over i (omega arith));
-    })))
+by_power n k low high =
+    let most : min k 18 ≤ 18 = omega arith in
+    omega (
+      arith,
+      ap suc (least_is 18 (λ i. ltb n (10 ^ suc i)) (min k 18) (record {
+        at_most = most;
+        holds = λ l. lt-ltb n (10 ^ suc (min k 18)) (omega (arith, high, ap (λ i. 10 ^ suc i) {x = min k 18} {y = k} (omega arith), Nat.pow-suc 10 k));
+        none_before = λ i l. le-ltb n (10 ^ suc i) (Nat.le_trans (Nat.pow-le-pow_right {n = 10} (omega arith) {i = suc i} {j = k} (omega arith)) (low (omega arith)));
+      })),
+    )
+
+pub counted : (n : ℕ) (r : Option ℕ) → IfNone r (n ≡ 0) → IfSome r (λ k. 10 ^ k ≤ n) → IfSome r (λ k. n < 10 * 10 ^ k) → min (unwrap_or r 0 + 1) 19 ≡ digit_count n
+counted n None zero low high = by_power n 0 (λ h. absurd (omega arith)) (omega (arith, zero))
+counted n (Some k) zero low high = by_power n k (λ _. low) high
 
 pub digits_most : (n : ℕ) → digit_count n ≤ 19
 unfolding digit_count
@@ -53,20 +42,35 @@ pub field-length : (n behind : ℕ) → length (field n behind) ≡ digit_count 
 unfolding field
 field-length n behind = length-append (decimal n) (behind ∷ []) ∙ ap (λ m. m + 1) (decimal-length n)
 
-pub digits_done : (rest count at k : ℕ) (out : List ℕ) → k ≡ 0 → low_digits k rest ++ take (count - k) (drop (at + k) out) ≡ take count (drop at out)
-unfolding low_digits
-digits_done rest count at k out e =
-    (λ i. low_digits (e i) rest ++ take (count - k) (drop (at + k) out))
-    ∙ ap (λ n. take n (drop (at + k) out)) {x = count - k} {y = count} (omega arith)
-    ∙ ap (λ n. take count (drop n out)) {x = at + k} {y = at} (omega arith)
+drop-set_here : (l : List ℕ) (i a : ℕ) → i < length l → drop i (set l i a) ≡ a ∷ drop (suc i) l
+drop-set_here l i a h = ap (drop i) (set_split l i a h) ∙ drop_at (take i l) (a ∷ drop (suc i) l) i (length-take-le i l (omega arith))
 
-module _ (rest count at j k : ℕ) (e : k ≡ suc j) (out : List ℕ) (inside : k ≤ count) (room : at + count ≤ length out) where
-  pub digit-step : low_digits k rest ++ take (count - k) (drop (at + k) out)
-      ≡ low_digits j (rest / 10) ++ take (count - j) (drop (at + j) (set out (at + j) (48 + rest % 10)))
-  unfolding low_digits
-  digit-step =
-      (λ i. low_digits (e i) rest ++ take (count - k) (drop (at + k) out))
-      ∙ append_assoc (low_digits j (rest / 10)) ((48 + rest % 10) ∷ []) (take (count - k) (drop (at + k) out))
-      ∙ ap (λ n. low_digits j (rest / 10) ++ ((48 + rest % 10) ∷ take (count - k) (drop n out))) {x = at + k} {y = suc (at + j)} (omega arith)
-      ∙ ap (λ l. low_digits j (rest / 10) ++ take (suc (count - k)) l) (sym (drop-set_here out (at + j) (48 + rest % 10) (omega arith)))
-      ∙ ap (λ n. low_digits j (rest / 10) ++ take n (drop (at + j) (set out (at + j) (48 + rest % 10)))) {x = suc (count - k)} {y = count - j} (omega arith)
+-- the digits before place j are still to come
+pub digit-step : (first j rest : ℕ) (digits : List ℕ) → first ≤ j → j < length digits
+    → low_digits (j - first) (rest / 10) ++ drop j (set digits j (48 + rest % 10)) ≡ low_digits (j + 1 - first) rest ++ drop (j + 1) digits
+unfolding low_digits
+digit-step first j rest digits l h =
+    ap (λ t. low_digits (j - first) (rest / 10) ++ t) (drop-set_here digits j (48 + rest % 10) h)
+    ∙ sym (append_assoc (low_digits (j - first) (rest / 10)) ((48 + rest % 10) ∷ []) (drop (suc j) digits))
+    ∙ ap (λ k. low_digits k rest ++ drop (suc j) digits) {x = suc (j - first)} {y = j + 1 - first} (omega arith)
+    ∙ ap (λ k. low_digits (j + 1 - first) rest ++ drop k digits) (sym (add-one j))
+
+-- no digit is stored yet, and the byte behind them is
+pub digits_none : (start count n behind : ℕ) (text : List ℕ) → count ≡ digit_count n → length text ≡ start + count + 1
+    → low_digits (start + count - start) n ++ drop (start + count) (set text (start + count) behind) ≡ field n behind
+unfolding low_digits field decimal
+digits_none start count n behind text e long =
+    let end = start + count in
+    ap (λ d. low_digits (end - start) n ++ d) (drop-set_here text end behind (omega arith)
+    ∙ ap (λ l. behind ∷ l) (drop_of_length-le text {i = suc end} (omega arith)))
+    ∙ ap (λ k. low_digits k n ++ (behind ∷ [])) {x = end - start} {y = digit_count n} (omega arith)
+
+-- all digits are stored
+pub digits_done : (start k rest n behind : ℕ) (front text : List ℕ) → k ≡ start → take start text ≡ front → low_digits (k - start) rest ++ drop k text ≡ field n behind
+    → text ≡ front ++ field n behind
+unfolding low_digits
+digits_done start k rest n behind front text e f h =
+    sym (take-append-drop start text)
+    ∙ ap (λ t. t ++ drop start text) f
+    ∙ ap (λ t. front ++ t)
+    (ap (λ m. low_digits m rest ++ drop start text) {x = 0} {y = k - start} (omega arith) ∙ ap (λ m. low_digits (k - start) rest ++ drop m text) (sym e) ∙ h)

@@ -1,4 +1,4 @@
-pub mod Puts
+pub mod Required
 pub mod Digits
 pub mod LineTexts
 pub mod PartTexts

@@ -1,6 +1,8 @@
 -- The text of values, part by part.
 --
 --   parted_next    one part more
+--   parted_longer  more parts are no shorter
+--   gathered-length how many values there are
 --   gathered_are   the values as they are gathered are those of the tables
 --   text-values    the text of the values of tables is the text of the tables
 --   text-over      a text whose values find no room is too long
@@ -12,7 +14,7 @@ use native.Mathlib.Omega.{arith}
 use native.Mathlib.Numerals.{add-one}
 use borrow.Author.Tests.{eqb-true, leb-true}
 use lib.Dec.{leb}
-use lib.ListN.{length, get_or, drop, length-append}
+use lib.ListN.{length, get_or, drop, length-append, length-map}
 use lib.IntN.{ℤ, pos}
 use Rattle.protocol.specs.declared.Settings.{Settings}
 use Rattle.protocol.specs.declared.Parts.{Parts}
@@ -26,7 +28,7 @@ use Rattle.text_parts.specs.Parts.{table_count, values_room, part_shape, part_of
 use Rattle.text_parts.specs.Flat.{start, total, piece, joined, table_values}
 use Rattle.text_parts.proofs.Counted.{part_of_holds, lengths-counted}
 use Rattle.text_parts.proofs.Exactly.{lengths-fit}
-use Rattle.text_parts.proofs.Flat.{piece-joined, values-lengths}
+use Rattle.text_parts.proofs.Flat.{piece-joined, start-joined, values-lengths}
 use Rattle.table_writer.specs.Put.{part_text}
 use Rattle.table_writer.specs.Tables.{capped, gathered, settings_text, parted, values_text, Writable}
 use Rattle.table_writer.proofs.LineTexts.{line_least}
@@ -49,6 +51,18 @@ module _ (b : ℕ → Shape) (v : ℕ → List ℤ) where
   pub parted_next : (k : ℕ) (text : List ℕ) → parted b v (k + 1) text ≡ parted b v k text ++ part_text (b k) (v k)
   unfolding parted
   parted_next k text = ap (λ n. parted b v n text) (add-one k)
+
+  -- more parts are no shorter
+  pub parted_longer : (k m : ℕ) (text : List ℕ) → length (parted b v k text) ≤ length (parted b v (k + m) text)
+  unfolding parted
+  parted_longer k zero text = omega (arith, ap (λ n. length (parted b v n text)) {x = k + 0} {y = k} (omega arith))
+  parted_longer k (suc m) text =
+      omega (
+        arith,
+        parted_longer k m text,
+        ap (λ n. length (parted b v n text)) {x = k + suc m} {y = suc (k + m)} (omega arith),
+        length-append (parted b v (k + m) text) (part_text (b (k + m)) (v (k + m))),
+      )
 
   parted_first : (k : ℕ) (text : List ℕ) → parted b v (suc k) text ≡ parted (λ i. b (suc i)) (λ i. v (suc i)) k (text ++ part_text (b 0) (v 0))
   unfolding parted
@@ -97,6 +111,16 @@ capped-within [] h = refl
 capped-within (x ∷ v) h =
     let (here, more) = and_split {a = leb x value_limit} h in
     λ j. capped_is x (leb-true x value_limit here) j ∷ capped-within v more j
+
+-- ---- as many values as the tables have numbers
+
+gathered-lengths : (t : Tables) → map length (gathered t) ≡ lengths_of t
+unfolding gathered lengths_of
+gathered-lengths t = simp length-map
+
+pub gathered-length : (t : Tables) → length (joined (gathered t)) ≡ total (lengths_of t)
+unfolding total gathered
+gathered-length t = sym (start-joined (gathered t)) ∙ ap (λ n. start n table_count) (gathered-lengths t)
 
 -- ---- the text of the values of tables
 

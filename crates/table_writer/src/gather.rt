@@ -1,116 +1,89 @@
-// The values of tables, one table after the other, in one table of a type that has room for all of them.
-ghost use Rattle.std.specs.Prelude.{◌≡◌, map, ◌+◌, ◌≤◌, leb, pos, length};
-ghost use Rattle.text_parts.specs.Parts.{tables_of, lengths_of, values_room};
+// The values of tables, one table after the other, in one list.
+ghost use Rattle.std.specs.Prelude.{◌≡◌, map, ◌+◌, ◌≤◌, ◌++◌, leb, pos, length, ℤ};
+ghost use Rattle.text_parts.specs.Parts.{lengths_of, values_room};
+ghost use Rattle.text_parts.specs.Lent.{tables_read};
 ghost use Rattle.text_parts.specs.Flat.{total, joined};
-ghost use Rattle.table_writer.specs.Put.{Put};
 ghost use Rattle.table_writer.specs.Tables.{capped, gathered};
 
+use crate::filled::Filled;
 use protocol::Residue;
 use text_format::VALUE_LIMIT;
-use text_parts::{TABLES, VALUES};
+use text_parts::{TABLES, Tables, VALUES};
+
+// A number of a table, or a setting, as a value.
+pub trait Value: Copy {
+    ghost value: { Self → ℤ };
+
+    fn value(self) -> i64
+        ensures { result ≡ value self };
+}
+
+// A challenge.
+impl Value for u32 {
+    ghost value = { pos };
+
+    fn value(self) -> i64 {
+        i64::from(self)
+    }
+}
+
+// A number of a message or of a final element.
+impl Value for i32 {
+    ghost value = { λ x. x };
+
+    fn value(self) -> i64 {
+        i64::from(self)
+    }
+}
+
+// A residue or the modulus. What is past the limit of values, which neither is, is one past it.
+impl Value for Residue {
+    ghost value = { capped };
+
+    #[tactic(auto, unfolding(crate::specs::Tables::capped, text_format::specs::Text::value_limit))]
+    fn value(self) -> i64 {
+        self.min(VALUE_LIMIT + 1) as i64
+    }
+}
+
+// The values of all tables.
+pub type Values = Filled<i64, VALUES>;
 
 // Is there room for the values of tables of these lengths. Where there is none their text is too long: a line has at least eight bytes.
 pub fn room(lengths: [usize; TABLES]) -> bool
     ensures { result ≡ leb (total lengths) values_room }
 {
     let mut start: usize = 0;
-    let mut k: usize = 0;
-    while k < TABLES {
-        if lengths[k] > VALUES - start {
+    for length in lengths {
+        if length > VALUES - start {
             return false;
         }
-        start += lengths[k];
-        k += 1;
+        start += length;
     }
     true
 }
 
-// A number from 0 on as a value.
-pub fn value_of(x: u32) -> i64
-    ensures { result ≡ pos x }
+// The values of a table behind others.
+fn put<T: Value>(table: &[T], values: &mut Values)
+    requires { length values.old + length table.now ≤ values_room }
+    ensures { values.new ≡ values.old ++ map T.value table.now }
 {
-    x as i64
-}
-
-// What is past the limit of values, which no residue is, is one past it.
-const PAST_LIMIT: i64 = (VALUE_LIMIT as i64) + 1;
-
-// A modulus or a residue as a value.
-pub fn residue_value(x: Residue) -> i64
-    ensures { result ≡ capped x }
-{
-    if x > VALUE_LIMIT {
-        return PAST_LIMIT;
+    for x in table {
+        values.push(x.value());
     }
-    x as i64
 }
 
-// A signed number as a value.
-fn signed_value_of(x: i32) -> i64
-    ensures { result ≡ x }
+// The values of the seven tables.
+#[tactic(auto, unfolding(crate::specs::Tables::gathered, text_parts::specs::Flat::start, text_parts::specs::Flat::total, text_parts::specs::Parts::lengths_of))]
+pub fn all(tables: &Tables<'_>, values: &mut Values)
+    requires { length values.old + total (lengths_of (tables_read tables.now)) ≤ values_room }
+    ensures { values.new ≡ values.old ++ joined (gathered (tables_read tables.now)) }
 {
-    x as i64
-}
-
-// A table of residues, from a place on; the place behind it.
-fn residues(table: &[Residue], from: usize, values: &mut [i64]) -> usize
-    requires { from + length table.now ≤ length values.old }
-    ensures { Put values.old from (map capped table.now) result values.new }
-{
-    let mut i: usize = 0;
-    while i < table.len() {
-        values[from + i] = residue_value(table[i]);
-        i += 1;
-    }
-    from + table.len()
-}
-
-// The same for challenges.
-fn exponents(table: &[u32], from: usize, values: &mut [i64]) -> usize
-    requires { from + length table.now ≤ length values.old }
-    ensures { Put values.old from (map pos table.now) result values.new }
-{
-    let mut i: usize = 0;
-    while i < table.len() {
-        values[from + i] = value_of(table[i]);
-        i += 1;
-    }
-    from + table.len()
-}
-
-// The same for signed numbers.
-fn signed(table: &[i32], from: usize, values: &mut [i64]) -> usize
-    requires { from + length table.now ≤ length values.old }
-    ensures { Put values.old from table.now result values.new }
-{
-    let mut i: usize = 0;
-    while i < table.len() {
-        values[from + i] = signed_value_of(table[i]);
-        i += 1;
-    }
-    from + table.len()
-}
-
-// The values of the seven tables; how many they are.
-pub fn all(
-    key: &[Residue],
-    message: &[i32],
-    commitment: &[Residue],
-    rounds: &[Residue],
-    challenges: &[u32],
-    last: &[i32],
-    claims: &[Residue],
-    values: &mut [i64],
-) -> usize
-    requires { total (lengths_of (tables_of key.now message.now commitment.now rounds.now challenges.now last.now claims.now)) ≤ length values.old }
-    ensures { Put values.old 0 (joined (gathered
-        (tables_of key.now message.now commitment.now rounds.now challenges.now last.now claims.now))) result values.new }
-{
-    let after_key = residues(key, 0, values);
-    let after_message = signed(message, after_key, values);
-    let after_commitment = residues(commitment, after_message, values);
-    let after_rounds = residues(rounds, after_commitment, values);
-    let after_challenges = exponents(challenges, after_rounds, values);
-    let after_last = signed(last, after_challenges, values);
-    residues(claims, after_last, values)
+    put(tables.key, values);
+    put(tables.message, values);
+    put(tables.commitment, values);
+    put(tables.rounds, values);
+    put(tables.challenges, values);
+    put(tables.last, values);
+    put(tables.claims, values);
 }

@@ -2,6 +2,7 @@
 // more, and copied to the output slice once nothing is refused. What each function gives is said by the definitions of `protocol`'s specs/Text.antt.
 #![tactic(auto)]
 
+mod filled;
 mod gather;
 mod lines;
 mod numbers;

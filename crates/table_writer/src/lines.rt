@@ -1,31 +1,30 @@
 // Lines as text.
-ghost use Rattle.std.specs.Prelude.{◌+◌, ◌≤◌, length};
+ghost use Rattle.std.specs.Prelude.{◌≡◌, ◌+◌, ◌≤◌, ◌++◌, length};
 ghost use Rattle.text_format.specs.Text.{line_text};
-ghost use Rattle.table_writer.specs.Put.{spot_room, line_room, spot_text, line_at, Put};
+ghost use Rattle.table_writer.specs.Put.{spot_room, line_room, spot_text, line_at};
 
+use crate::filled::Filled;
 use crate::numbers::put_field;
-use ranges::tests::magnitude_wide;
 use text_parts::Cell;
 
 // Part, item and place of a line.
-pub fn put_spot(part: u32, cell: Cell, at: usize, out: &mut [u8]) -> usize
-    requires { at + spot_room ≤ length out.old }
-    ensures { Put out.old at (spot_text part cell) result out.new }
+fn put_spot<const N: usize>(part: u32, cell: Cell, text: &mut Filled<u8, N>)
+    requires { length text.old + spot_room ≤ N }
+    ensures { text.new ≡ text.old ++ spot_text part cell }
 {
-    let item_on = put_field(part as u64, 32, at, out);
-    let place_on = put_field(cell.item as u64, 32, item_on, out);
-    put_field(cell.place as u64, 32, place_on, out)
+    put_field(u64::from(part), b' ', text);
+    put_field(u64::from(cell.item), b' ', text);
+    put_field(u64::from(cell.place), b' ', text);
 }
 
 // A line with its value.
-pub fn put_line(part: u32, cell: Cell, value: i64, at: usize, out: &mut [u8]) -> usize
-    requires { at + line_room ≤ length out.old }
-    ensures { Put out.old at (line_text (line_at part cell value)) result out.new }
+pub fn put_line<const N: usize>(part: u32, cell: Cell, value: i64, text: &mut Filled<u8, N>)
+    requires { length text.old + line_room ≤ N }
+    ensures { text.new ≡ text.old ++ line_text (line_at part cell value) }
 {
-    let value_on = put_spot(part, cell, at, out);
+    put_spot(part, cell, text);
     if value < 0 {
-        out[value_on] = 45;
-        return put_field(magnitude_wide(value), 10, value_on + 1, out);
+        text.push(b'-');
     }
-    put_field(magnitude_wide(value), 10, value_on, out)
+    put_field(value.unsigned_abs(), b'\n', text);
 }

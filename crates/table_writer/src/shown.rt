@@ -1,9 +1,11 @@
 // Bytes for a program to print, put at the front of a slice that has room for them.
+ghost use Rattle.protocol.specs.Refusal.{number};
 ghost use Rattle.text_format.specs.Programs.{refused_line};
 ghost use Rattle.table_writer.specs.Shown.{Shown};
 
+use crate::filled::Filled;
 use crate::numbers::put_field;
-use crate::text::copy;
+use protocol::Refusal;
 
 // How many bytes were put: all of them, or none where there is no room for all.
 pub fn show(bytes: &[u8], out: &mut [u8]) -> usize
@@ -13,7 +15,7 @@ pub fn show(bytes: &[u8], out: &mut [u8]) -> usize
     if count > out.len() {
         return 0;
     }
-    copy(bytes, out);
+    out[..count].copy_from_slice(bytes);
     count
 }
 
@@ -21,11 +23,11 @@ pub fn show(bytes: &[u8], out: &mut [u8]) -> usize
 const REFUSAL_LINE: usize = 28;
 
 // The line for a refusal.
-pub fn show_refusal(refusal: u32, out: &mut [u8]) -> usize
-    ensures { Shown (refused_line refusal) out.old result out.new }
+pub fn show_refusal(refusal: Refusal, out: &mut [u8]) -> usize
+    ensures { Shown (refused_line (number refusal)) out.old result out.new }
 {
-    let mut line = [0u8; REFUSAL_LINE];
-    copy(b"refused ", &mut line);
-    let count = put_field(refusal as u64, 10, 8, &mut line);
-    show(&line[..count], out)
+    let mut line: Filled<u8, REFUSAL_LINE> = Filled::new(0);
+    line.extend(b"refused ");
+    put_field(u64::from(refusal.number()), b'\n', &mut line);
+    show(line.as_slice(), out)
 }

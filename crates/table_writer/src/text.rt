@@ -1,42 +1,30 @@
 // The text of values.
-ghost use Rattle.std.specs.Prelude.{◌≡◌, true, ◌++◌, ◌≤◌, length, drop};
+ghost use Rattle.std.specs.Prelude.{◌≡◌, true, ◌≤◌, [], length};
 ghost use Rattle.protocol.specs.Basic.{Provided};
 ghost use Rattle.text_parts.specs.Parts.{part_of, lengths_are};
 ghost use Rattle.text_parts.specs.Flat.{total};
-ghost use Rattle.table_writer.specs.Put.{text_room, Held};
+ghost use Rattle.table_writer.specs.Put.{Grows};
 ghost use Rattle.table_writer.specs.Tables.{settings_text, values_text};
 
-use crate::gather::{residue_value, value_of};
-use crate::parts::{put_part, put_parts};
-use protocol::{Parts, Settings};
+use crate::gather::Value;
+use crate::parts::{Text, put_part, put_parts};
+use protocol::{Parts, Refusal, Settings};
 use text_parts::{TABLES, settings_shape};
 
-// Bytes copied to the front of a slice.
-pub fn copy(bytes: &[u8], out: &mut [u8])
-    requires { length bytes.now ≤ length out.old }
-    ensures { out.new ≡ bytes.now ++ drop (length bytes.now) out.old }
-{
-    let mut i: usize = 0;
-    while i < bytes.len() {
-        out[i] = bytes[i];
-        i += 1;
-    }
-}
-
 // The names line and the settings.
-pub fn put_settings(settings: Settings, out: &mut [u8]) -> usize
-    requires { text_room ≤ length out.old }
-    ensures { Held (settings_text settings) result out.new }
+fn put_settings(settings: Settings, text: &mut Text) -> Result<(), Refusal>
+    requires { text.old ≡ [] }
+    ensures { Grows (settings_text settings) result text.new }
 {
-    copy(b"part item place value\n", out);
+    text.extend(b"part item place value\n");
     let values = [
-        value_of(settings.degree),
-        value_of(settings.depth),
-        residue_value(settings.modulus),
-        value_of(settings.bound),
-        value_of(settings.rows),
+        settings.degree.value(),
+        settings.depth.value(),
+        settings.modulus.value(),
+        settings.bound.value(),
+        settings.rows.value(),
     ];
-    put_part(settings_shape(), &values, 22, out)
+    put_part(settings_shape(), &values, text)
 }
 
 // The names line, the settings and the parts that are there.
@@ -45,11 +33,11 @@ pub fn put_text(
     parts: Parts,
     lengths: [usize; TABLES],
     values: &[i64],
-    out: &mut [u8],
-) -> usize
-    requires { (text_room ≤ length out.old) × (total lengths ≤ length values.now) }
-    ensures { Provided (lengths_are (part_of settings parts) lengths ≡ true) (Held (values_text settings parts lengths values.now) result out.new) }
+    text: &mut Text,
+) -> Result<(), Refusal>
+    requires { (text.old ≡ []) × (total lengths ≤ length values.now) }
+    ensures { Provided (lengths_are (part_of settings parts) lengths ≡ true) (Grows (values_text settings parts lengths values.now) result text.new) }
 {
-    let tables_on = put_settings(settings, out);
-    put_parts(settings, parts, lengths, values, tables_on, out)
+    put_settings(settings, text)?;
+    put_parts(settings, parts, lengths, values, text)
 }

@@ -6,3 +6,4 @@ pub mod Values
 pub mod Follow
 pub mod Looks
 pub mod Looked
+pub mod Parted

@@ -4,12 +4,11 @@
 --   opened, opened_settings, header-settings
 --                        what the reader of the settings gives for such a text: the settings of its lines
 --   look-..              what the answer of a first look says
---   Begun, begun         what is known of the settings that a text begins with
---   begun_refused, begun_granted   the answer, by that of the reader of the first lines
---   begun_begins         a text that is not refused begins with allowed settings
+--   Answered, begun      what is known of the settings that a text begins with
+--   front_.., begun_refused, begun_granted
+--                        the answer, by that of the reader of the first lines
 use mathlib.Core.Path.{◌≡◌, refl, sym, ap, subst, ◌∙◌}
 use mathlib.Core.Option.{Option, none, some}
-use mathlib.Core.Bool.{true}
 use mathlib.Core.List.{List}
 use Prim.Native.Nat.{ℕ, zero, suc, ◌-◌, ◌≤◌}
 use native.Mathlib.Omega.{arith}
@@ -17,15 +16,18 @@ use borrow.Author.Tests.{leb-true}
 use lib.ListN.{length}
 use lib.IntN.{ℤ}
 use Rattle.protocol.specs.declared.Settings.{Settings}
+use Rattle.std.specs.Prelude.{Ok, Err, Some, None}
+use Rattle.protocol.specs.declared.Refusal.{Refusal}
+use Rattle.protocol.specs.Refusal.{number}
 use Rattle.protocol.specs.Answers.{Loaded}
 use Rattle.protocol.specs.Basic.{choose, granted, among, first, unless}
 use Rattle.protocol.specs.Settings.{degree_allowed, settings_refusal}
 use Rattle.text_format.specs.Text.{Line, text_limit, lines_of, settings_in, no_settings, look_refusal, loaded, look_answer}
 use Rattle.text_format.specs.Lines.{present, all_lines, settings_of, read_settings, begun_with, begun_answer}
 use Rattle.protocol.proofs.Tests.{first_zero, unless-zero, granted-zero, granted_refused}
-use Rattle.text_lines.specs.declared.header.Header.{Header}
-use Rattle.text_lines.specs.Header.{header_answer, Begins}
-use Rattle.text_lines.proofs.Looks.{Settled, settled, settled-settings, settled-look, look-missing}
+use Rattle.text_lines.specs.declared.header.Begun.{Begun}
+use Rattle.text_lines.specs.Header.{header_answer, as_begun}
+use Rattle.text_lines.proofs.Looks.{Settled, settled, settled-settings, settled-look, look-missing, look-refused, header_unfound}
 
 -- ---- a text whose settings are not refused
 
@@ -68,18 +70,20 @@ module _ (text : List ℕ) (e : look_refusal text ≡ 0) where
   looked = by_header (read_settings text) refl
 
 -- what the reader of the settings gives for a text that is not refused
-module _ (text : List ℕ) (l : Looked text) (h : Header) (h-is : h ≡ header_answer text (read_settings text)) where
-  pub opened : h ≡ record { found = true; settings = settings_of l.values; next = length text - length l.rest }
+module _ (text : List ℕ) (l : Looked text) (b : Begun) (b-is : Some b ≡ header_answer text (read_settings text)) where
+  pub opened : b ≡ record { settings = settings_of l.values; next = length text - length l.rest }
   unfolding header_answer
-  opened = h-is ∙ ap (header_answer text) l.header_is
+  opened =
+      let same : Some b ≡ Some (record { settings = settings_of l.values; next = length text - length l.rest }) = b-is ∙ ap (header_answer text) l.header_is in
+      cc
 
-  pub opened_settings : h.settings ≡ settings_of l.values
+  pub opened_settings : b.settings ≡ settings_of l.values
   opened_settings = ap (λ x. x.settings) opened
 
-pub header-settings : (text : List ℕ) (h : Header) → h ≡ header_answer text (read_settings text) → look_refusal text ≡ 0 → settings_in (lines_of text) ≡ h.settings
-header-settings text h h-is e =
+pub header-settings : (text : List ℕ) (b : Begun) → Some b ≡ header_answer text (read_settings text) → look_refusal text ≡ 0 → settings_in (lines_of text) ≡ b.settings
+header-settings text b b-is e =
     let l = looked text e in
-    settled-settings text l.values l.rest l.begins l.more l.more_is ∙ sym (opened_settings text l h h-is)
+    settled-settings text l.values l.rest l.begins l.more l.more_is ∙ sym (opened_settings text l b b-is)
 
 -- what the answer of a first look says
 module _ (text : List ℕ) (r : Loaded) (r-is : r ≡ look_answer text) where
@@ -104,7 +108,7 @@ unfolding settings_refusal no_settings degree_allowed among first unless
 no-settings = refl
 
 -- a text that is refused has a first look's answer; the settings are allowed, and they are the text's where its lines are of the stated shape
-pub record Begun (text : List ℕ) (r : Loaded) : Type 0 where
+pub record Answered (text : List ℕ) (r : Loaded) : Type 0 where
   pub refused : (r.refusal ≡ 0 → ⊥) → r ≡ look_answer text
   pub allowed : r.refusal ≡ 0 → settings_refusal r.settings ≡ 0
   pub settings_are : look_refusal text ≡ 0 → r.settings ≡ settings_in (lines_of text)
@@ -113,7 +117,7 @@ module _ (text : List ℕ) where
   abbrev front : Settings
   front = begun_with (read_settings text)
 
-  begun_looked : (r : Loaded) → r ≡ look_answer text → Begun text r
+  begun_looked : (r : Loaded) → r ≡ look_answer text → Answered text r
   begun_looked r r-is = record {
     refused = λ _. r-is;
     allowed = look-allowed text r r-is;
@@ -126,54 +130,40 @@ module _ (text : List ℕ) where
       let l = looked text e in
       ap begun_with l.header_is ∙ sym (settled-settings text l.values l.rest l.begins l.more l.more_is)
 
-  begun_allowed : settings_refusal front ≡ 0 → Begun text (record { refusal = 0; settings = front })
+  begun_allowed : settings_refusal front ≡ 0 → Answered text (record { refusal = 0; settings = front })
   begun_allowed e = record { refused = λ n. absurd (n refl); allowed = λ _. e; settings_are = front_is }
 
-  begun_by : (n : ℕ) → settings_refusal front ≡ n → (r : Loaded) → r ≡ granted n (record { refusal = 0; settings = front }) (look_answer text) → Begun text r
+  begun_by : (n : ℕ) → settings_refusal front ≡ n → (r : Loaded) → r ≡ granted n (record { refusal = 0; settings = front }) (look_answer text) → Answered text r
   unfolding granted
-  begun_by zero e r f = subst (Begun text) (sym f) (begun_allowed e)
+  begun_by zero e r f = subst (Answered text) (sym f) (begun_allowed e)
   begun_by (suc n) e r f = begun_looked r f
 
-  pub begun : (r : Loaded) → r ≡ begun_answer text → Begun text r
+  pub begun : (r : Loaded) → r ≡ begun_answer text → Answered text r
   unfolding begun_answer
   begun r e = begun_by (settings_refusal front) refl r e
 
   -- by the answer of the reader of the first lines
-  header_front : (o : Option (List ℤ × List ℕ)) → (header_answer text o).settings ≡ begun_with o
+  front_by : (o : Option (List ℤ × List ℕ)) (b : Begun) → Some b ≡ header_answer text o → b.settings ≡ begun_with o
   unfolding header_answer begun_with
-  header_front none = refl
-  header_front (some (vs, rest)) = refl
+  front_by none b e = let z : ◌≡◌ {A = ℕ} 0 1 = cc in absurd (omega arith)
+  front_by (some (vs, rest)) b e =
+      let same : b ≡ record { settings = settings_of vs; next = length text - length rest } = cc in
+      ap (λ x. x.settings) same
 
-  module _ (h : Header) (h-is : h ≡ header_answer text (read_settings text)) where
-    begins_with : h.settings ≡ front
-    begins_with = ap (λ x. x.settings) h-is ∙ header_front (read_settings text)
+  pub front_missing : None ≡ header_answer text (read_settings text) → settings_refusal front ≡ 0 → ⊥
+  unfolding begun_with
+  front_missing e z = absurd (omega (arith, ap (λ o. settings_refusal (begun_with o)) (header_unfound text e), no-settings))
 
-    pub begun_refused : (r : Loaded) → r ≡ look_answer text → (settings_refusal h.settings ≡ 0 → ⊥) → r ≡ begun_answer text
+  pub begun_refused : (r : Refusal) → number r ≡ look_refusal text → (settings_refusal front ≡ 0 → ⊥) → as_begun (Err r) ≡ begun_answer text
+  unfolding begun_answer
+  begun_refused r e n = look-refused text r e ∙ sym (granted_refused _ _ _ n)
+
+  module _ (b : Begun) (b-is : Some b ≡ header_answer text (read_settings text)) where
+    pub front_refused : (settings_refusal b.settings ≡ 0 → ⊥) → settings_refusal front ≡ 0 → ⊥
+    front_refused n z = n (ap settings_refusal (front_by (read_settings text) b b-is) ∙ z)
+
+    pub begun_granted : settings_refusal b.settings ≡ 0 → as_begun (Ok b) ≡ begun_answer text
     unfolding begun_answer
-    begun_refused r e n = e ∙ sym (granted_refused _ _ _ (λ z. n (ap settings_refusal begins_with ∙ z)))
-
-    pub begun_granted : settings_refusal h.settings ≡ 0 → ◌≡◌ {A = Loaded} (record { refusal = 0; settings = h.settings }) (begun_answer text)
-    unfolding begun_answer
-    begun_granted e = (λ j. record { refusal = 0; settings = begins_with j }) ∙ sym (granted-zero _ _ _ (ap settings_refusal (sym begins_with) ∙ e))
-
-  -- a text that is not refused begins with allowed settings
-  begins_by : (o : Option (List ℤ × List ℕ)) → read_settings text ≡ o → (next : ℕ) → next ≡ (header_answer text (read_settings text)).next → settings_refusal (begun_with o) ≡ 0
-      → Begins text (begun_with o) next
-  unfolding begun_with header_answer
-  begins_by none e next is ok = absurd (omega (arith, ok, no-settings))
-  begins_by (some (vs, rest)) e next is ok = record {
-    header = (λ j. record { found = true; settings = settings_of vs; next = (is ∙ ap (λ o. (header_answer text o).next) e) j }) ∙ sym (ap (header_answer text) e);
-    allowed = ok;
-  }
-
-  front_allowed : (r : Loaded) → r ≡ begun_answer text → r.refusal ≡ 0 → (n : ℕ) → settings_refusal front ≡ n → (settings_refusal front ≡ 0) × (r.settings ≡ front)
-  unfolding begun_answer begun_with
-  front_allowed r e z zero f = (f, ap (λ x. x.settings) (e ∙ granted-zero _ _ _ f))
-  front_allowed r e z (suc n) f =
-      let l = looked text (sym (look-number text r (e ∙ granted_refused _ _ _ (λ g. absurd (omega arith)))) ∙ z) in
-      absurd (omega (arith, f, ap (λ o. settings_refusal (begun_with o)) l.header_is, l.allowed))
-
-  pub begun_begins : (r : Loaded) (next : ℕ) → r ≡ begun_answer text → next ≡ (header_answer text (read_settings text)).next → r.refusal ≡ 0 → Begins text r.settings next
-  begun_begins r next e is z =
-      let (ok, same) = front_allowed r e z (settings_refusal front) refl in
-      subst (λ S. Begins text S next) (sym same) (begins_by (read_settings text) refl next is ok)
+    begun_granted e =
+        let same = front_by (read_settings text) b b-is in
+        (λ j. record { refusal = 0; settings = same j }) ∙ sym (granted-zero _ _ _ (ap settings_refusal (sym same) ∙ e))

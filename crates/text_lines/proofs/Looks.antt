@@ -2,26 +2,32 @@
 --
 --   parsed-named, parsed-unnamed  the lines of a text, by its names line
 --   header-missing              a text that does not begin with settings is not well formed
---   Header, header-found        one that does is well formed where the lines behind them are
---   look-..                     what `look_refusal` and `look_answer` give
+--   Settled, settled-..         one that does is well formed where the lines behind them are
+--   header-..                   what the answer of the reader of the first lines says
+--   look-.., ..refused          what `look_refusal` and `look_answer` give
 use mathlib.Core.Path.{◌≡◌, refl, sym, ap, ◌∙◌}
-use mathlib.Core.Bool.{Bool, true, false, false≢true}
+use Rattle.std.specs.Prelude.{Ok, Err, Some, None}
+use mathlib.Core.Bool.{Bool, true, false}
 use mathlib.Core.List.{List, [], ◌∷◌, ◌++◌, map-append}
 use mathlib.Core.Option.{Option, none, some, get_or}
 use Prim.Native.Nat.{ℕ, zero, suc, ◌+◌, ◌-◌, ◌≤◌, ◌<◌}
 use native.Mathlib.Omega.{arith}
 use borrow.Author.Tests.{le-leb, lt-leb}
+use lib.Dec.{leb}
 use lib.ListN.{length, take, drop, get_or-append, length-drop, length-map}
 use lib.Seq.{take_at, drop-drop}
 use lib.IntN.{ℤ, pos}
 use Rattle.protocol.specs.declared.Settings.{Settings}
-use Rattle.protocol.specs.Answers.{Loaded}
+use Rattle.protocol.specs.declared.Refusal.{Refusal}
+use Rattle.protocol.specs.declared.Refusal.TheVariants.{Long, Text, Degree, Depth, Modulus, Bound, Size, Residue, Tall, Challenge, Turn, Twin, Branch, Growth, Slack, Rows}
+use Rattle.protocol.specs.Refusal.{number}
+use Rattle.protocol.specs.Answers.{Loaded, as_loaded}
 use Rattle.protocol.specs.Basic.{tabulate, choose, first, unless, granted}
 use Rattle.protocol.specs.Settings.{settings_refusal}
 use Rattle.text_format.specs.Text.{Spot, Line, text_limit, shape, settings_shape, shape_size, spots, names, read_lines, begins_with_names, parsed, lines_of, same_spots, spots_of}
-use Rattle.text_format.specs.Text.{value_limit, narrow_limit, values_of, well_formed, unsigned, setting_in, settings_in, no_settings, look_refusal, loaded}
+use Rattle.text_format.specs.Text.{value_limit, narrow_limit, values_of, well_formed, unsigned, setting_in, settings_in, no_settings, look_refusal, look_answer, loaded}
 use Rattle.protocol.proofs.Refusals.{first_fails, first_holds, first_only}
-use Rattle.text_lines.specs.declared.header.Header.{Header}
+use Rattle.text_lines.specs.declared.header.Begun.{Begun}
 use Rattle.text_format.specs.Lines.{present, read_values, all_lines, settings_of, read_settings}
 use Rattle.text_lines.specs.Header.{header_answer}
 use Rattle.text_lines.proofs.Counts.{suffix-place}
@@ -183,6 +189,25 @@ module _ (text : List ℕ) (vs : List ℤ) (rest : List ℕ) (h : Settled text v
 
 -- ---- answers
 
+-- every refusal has a number
+pub numbered : (r : Refusal) → number r ≡ 0 → ⊥
+numbered Long e = absurd (omega (arith, e))
+numbered Text e = absurd (omega (arith, e))
+numbered Degree e = absurd (omega (arith, e))
+numbered Depth e = absurd (omega (arith, e))
+numbered Modulus e = absurd (omega (arith, e))
+numbered Bound e = absurd (omega (arith, e))
+numbered Size e = absurd (omega (arith, e))
+numbered Residue e = absurd (omega (arith, e))
+numbered Tall e = absurd (omega (arith, e))
+numbered Challenge e = absurd (omega (arith, e))
+numbered Turn e = absurd (omega (arith, e))
+numbered Twin e = absurd (omega (arith, e))
+numbered Branch e = absurd (omega (arith, e))
+numbered Growth e = absurd (omega (arith, e))
+numbered Slack e = absurd (omega (arith, e))
+numbered Rows e = absurd (omega (arith, e))
+
 module _ (text : List ℕ) where
   pub look_long : text_limit < length text → look_refusal text ≡ 1
   unfolding look_refusal
@@ -201,30 +226,76 @@ module _ (text : List ℕ) where
   unfolding loaded granted
   loaded-granted settings refusal e f = sym (ap (λ x. loaded x text) e ∙ (λ j. record { refusal = 0; settings = f j }))
 
-  -- what the answer of the reader of the first lines says
-  header_by : (o : Option (List ℤ × List ℕ)) → read_settings text ≡ o → (r : Header) → r ≡ header_answer text o → r.found ≡ true
-      → (vs : List ℤ) × (rest : List ℕ) × (Settled text vs rest) × (r.settings ≡ settings_of vs) × (drop r.next text ≡ rest)
-  unfolding header_answer
-  header_by none e r f t = absurd (false≢true (sym (ap (λ x. x.found) f) ∙ t))
-  header_by (some (vs, rest)) e r f t =
-      (vs, rest, settled text vs rest e, ap (λ x. x.settings) f, ap (λ x. drop x.next text) f ∙ (settled text vs rest e).place_is)
+  -- what the answer of a first look says
+  pub look-refused : (r : Refusal) → number r ≡ look_refusal text → as_loaded (Err r) ≡ look_answer text
+  unfolding look_answer
+  look-refused r e = loaded-refused (as_loaded (Err r)) (number r) (look_refusal text) refl (sym e) (numbered r)
 
-  pub header-found : (r : Header) → r ≡ header_answer text (read_settings text) → r.found ≡ true
-      → (vs : List ℤ) × (rest : List ℕ) × (Settled text vs rest) × (r.settings ≡ settings_of vs) × (drop r.next text ≡ rest)
+  pub look-granted : (S : Settings) → look_refusal text ≡ 0 → settings_in (lines_of text) ≡ S → as_loaded (Ok S) ≡ look_answer text
+  unfolding look_answer
+  look-granted S e f = loaded-granted S (look_refusal text) e f
+
+  -- what the answer of the reader of the first lines says
+  header_by : (o : Option (List ℤ × List ℕ)) → read_settings text ≡ o → (b : Begun) → Some b ≡ header_answer text o
+      → (vs : List ℤ) × (rest : List ℕ) × (Settled text vs rest) × (b.settings ≡ settings_of vs) × (drop b.next text ≡ rest)
+  unfolding header_answer
+  header_by none e b f = let z : ◌≡◌ {A = ℕ} 0 1 = cc in absurd (omega arith)
+  header_by (some (vs, rest)) e b f =
+      let same : b ≡ record { settings = settings_of vs; next = length text - length rest } = cc in
+      (vs, rest, settled text vs rest e, ap (λ x. x.settings) same, ap (λ x. drop x.next text) same ∙ (settled text vs rest e).place_is)
+
+  pub header-found : (b : Begun) → Some b ≡ header_answer text (read_settings text)
+      → (vs : List ℤ) × (rest : List ℕ) × (Settled text vs rest) × (b.settings ≡ settings_of vs) × (drop b.next text ≡ rest)
   header-found = header_by (read_settings text) refl
 
-  header-none : (o : Option (List ℤ × List ℕ)) (r : Header) → r ≡ header_answer text o → r.found ≡ false → o ≡ none
+  header-none : (o : Option (List ℤ × List ℕ)) → None ≡ header_answer text o → o ≡ none
   unfolding header_answer
-  header-none none r f t = refl
-  header-none (some (vs, rest)) r f t = absurd (false≢true (sym t ∙ ap (λ x. x.found) f))
+  header-none none f = refl
+  header-none (some (vs, rest)) f = let z : ◌≡◌ {A = ℕ} 0 1 = cc in absurd (omega arith)
 
-  pub header_unfound : (r : Header) → r ≡ header_answer text (read_settings text) → r.found ≡ false → read_settings text ≡ none
+  pub header_unfound : None ≡ header_answer text (read_settings text) → read_settings text ≡ none
   header_unfound = header-none (read_settings text)
 
-  next_within : (o : Option (List ℤ × List ℕ)) (r : Header) → r ≡ header_answer text o → r.next ≤ length text
+  next_within : (o : Option (List ℤ × List ℕ)) (b : Begun) → Some b ≡ header_answer text o → b.next ≤ length text
   unfolding header_answer
-  next_within none r f = omega (arith, ap (λ x. x.next) f)
-  next_within (some (vs, rest)) r f = omega (arith, ap (λ x. x.next) f)
+  next_within none b f = let z : ◌≡◌ {A = ℕ} 0 1 = cc in absurd (omega arith)
+  next_within (some (vs, rest)) b f =
+      let same : b ≡ record { settings = settings_of vs; next = length text - length rest } = cc in
+      omega (arith, ap (λ x. x.next) same)
 
-  pub header-within : (r : Header) → r ≡ header_answer text (read_settings text) → r.next ≤ length text
+  pub header-within : (b : Begun) → Some b ≡ header_answer text (read_settings text) → b.next ≤ length text
   header-within = next_within (read_settings text)
+
+  -- the first tests of a first look, by the number of a refusal or 0
+  module _ (x : ℕ) where
+    pub long_refused : x ≡ unless 1 (leb (length text) text_limit) → (x ≡ 0 → ⊥) → x ≡ look_refusal text
+    unfolding look_refusal first unless
+    long_refused e n = by_test (leb (length text) text_limit) e
+      where
+        by_test : (b : Bool) → x ≡ unless 1 b → x ≡ first (unless 1 b ∷ unless 2 (well_formed text) ∷ settings_refusal (settings_in (lines_of text)) ∷ [])
+        by_test true f = absurd (n f)
+        by_test false f = f
+
+    module _ (short : length text ≤ text_limit) (b : Begun) (is : Some b ≡ header_answer text (read_settings text)) where
+      settled_is : look_refusal text ≡ choose (present (all_lines (drop b.next text))) (settings_refusal b.settings) 2
+      settled_is =
+          let (vs, rest, h, same, place) = header-found b is in
+          settled-look text vs rest h short ∙ (λ j. choose (present (all_lines (sym place j))) (settings_refusal (sym same j)) 2)
+
+      pub shape_refused : x ≡ unless 2 (present (all_lines (drop b.next text))) → (x ≡ 0 → ⊥) → x ≡ look_refusal text
+      unfolding unless choose
+      shape_refused e n = by_test (present (all_lines (drop b.next text))) e ∙ sym settled_is
+        where
+          by_test : (t : Bool) → x ≡ unless 2 t → x ≡ choose t (settings_refusal b.settings) 2
+          by_test true f = absurd (n f)
+          by_test false f = f
+
+      pub settings_refused : present (all_lines (drop b.next text)) ≡ true → x ≡ settings_refusal b.settings → x ≡ look_refusal text
+      unfolding choose
+      settings_refused t e = e ∙ sym (settled_is ∙ ap (λ p. choose p (settings_refusal b.settings) 2) t)
+
+      pub settings_looked : present (all_lines (drop b.next text)) ≡ true → settings_in (lines_of text) ≡ b.settings
+      unfolding choose
+      settings_looked t =
+          let (vs, rest, h, same, place) = header-found b is in
+          settled-granted text vs rest h 0 (ap (λ p. choose p 0 2) (ap (λ r. present (all_lines r)) (sym place) ∙ t)) ∙ sym same

@@ -18,17 +18,16 @@ use native.Mathlib.Omega.{arith}
 use lib.Dec.{eqb}
 use lib.ListN.{length, get_or, drop, length-drop}
 use lib.IntN.{ℤ, pos}
-use Rattle.protocol.specs.Answers.{Number}
 use Rattle.protocol.specs.Answers.Number.{Value, Refused}
 use Rattle.protocol.specs.Answers.{Entry}
-use Rattle.text_format.specs.Text.{Line, space, line_feed, narrow_limit, limit_of, keep, proper_digits, read_count, read_number, byte, plain, read_index, read_line, read_lines, reading}
+use Rattle.text_format.specs.Text.{Line, space, line_feed, narrow_limit, limit_of, keep, proper_digits, read_count, read_number, byte, read_index, read_line, read_lines}
 use Rattle.protocol.specs.Answers.Entry.{Found as Line-at, Malformed}
-use Rattle.text_format.specs.Lines.{present, given_number, read_index_at, line_reading, given_line, line_answer, read_line_at, all_lines}
+use Rattle.text_format.specs.Lines.{present, read_index_at, line_reading, given_line, line_answer, read_line_at, all_lines}
 use Rattle.text_format.proofs.Answers.{line_given}
 use Rattle.text_parts.proofs.From.{from_cons}
 use Rattle.text_format.proofs.NumeralLaws.{keep_some}
 use Rattle.text_lines.proofs.Counts.{Suffix, suffix-self, suffix_more, suffix_of, Found, found, keep_yes, count_small, count-suffix, count-shorter, number-suffix}
-use Rattle.text_lines.proofs.Counts.{number-shorter, plain-found, plain-missed, answer_both}
+use Rattle.text_lines.proofs.Counts.{number-shorter, plain-found, plain-missed}
 
 -- ---- steps
 
@@ -154,10 +153,6 @@ module _ (text : List ℕ) (at : ℕ) where
   pub uncolumned : (number : ℕ) → read_index_at text at ≡ Refused number → read_index (drop at text) ≡ none
   unfolding read_index_at
   uncolumned = plain-missed read_index column-suffix text at
-
-  pub index_both : (r : Number) → r ≡ read_index_at text at → (r ≡ read_index_at text at) × (reading r ≡ given_number text (plain (read_index (drop at text))))
-  unfolding read_index_at
-  index_both r e = answer_both text (plain (read_index (drop at text))) r e
 
 -- ---- a line
 

@@ -1,32 +1,21 @@
 -- Runs of digits: what the tests on a byte say, one digit more, and why a number that is kept small decides the same.
 --
---   digit-below, digit-from   a test on a byte, from its range
---   first-.., proper-..       the same for the byte at a place
+--   first-.., proper-..       what the tests on the byte at a place say
 --   kept r                    a run whose number is kept at most `past_limit`
 --   run-digit, run_end        one digit more, and the end of a run
 use mathlib.Core.Path.{◌≡◌, refl, sym, ap, ◌∙◌}
 use mathlib.Core.Bool.{Bool, true, false, ◌&&◌, not, false≢true}
 use mathlib.Core.List.{List, [], ◌∷◌}
-use Prim.Native.Nat.{ℕ, ◌+◌, ◌-◌, ◌*◌, ◌≤◌, ◌<◌, min}
+use Prim.Native.Nat.{ℕ, ◌+◌, ◌-◌, ◌*◌, ◌<◌, min}
 use native.Mathlib.Omega.{arith}
-use borrow.Author.Tests.{le-leb, lt-leb, eq-eqb, ne_eqb}
-use lib.Dec.{leb, eqb}
+use borrow.Author.Tests.{eq-eqb, ne_eqb}
+use lib.Dec.{eqb}
 use lib.ListN.{length, get_or, drop, length-drop}
 use Rattle.text_format.specs.Text.{digit, digit_first, proper_digits, digit_run}
 use Rattle.text_format.proofs.NumeralLaws.{digit_run_on, digit_run-stop}
 use Rattle.text_format.proofs.PlaceLaws.{digit_first-inside}
 use Rattle.text_lines.specs.Digits.{past_limit}
 use Rattle.text_parts.proofs.From.{from_cons}
-
--- ---- one byte
-
-pub digit-below : (b : ℕ) → b < 48 → digit b ≡ false
-unfolding digit
-digit-below b h = ap (λ t. t && leb b 57) (lt-leb 48 b h)
-
-pub digit-from : (b : ℕ) → 48 ≤ b → digit b ≡ leb b 57
-unfolding digit
-digit-from b h = ap (λ t. t && leb b 57) (le-leb 48 b h)
 
 -- ---- the byte at a place
 

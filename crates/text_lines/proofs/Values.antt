@@ -1,6 +1,6 @@
 -- Values of lines at wanted spots, one after the other.
 --
---   same_spot_lem, other_part ..  the test whether two spots are the same, and what it says
+--   same_spot_lem, spot_same      the test whether two spots are the same, and what it says
 --   value-..                      the value of a line at a spot
 --   prefix vs o                   what was read before, and what is read next
 --   values-..                     values of lines, one after the other
@@ -8,17 +8,17 @@ use mathlib.Core.Path.{◌≡◌, refl, sym, ap, subst, ◌∙◌}
 use mathlib.Core.Bool.{Bool, true, false, ◌&&◌, false≢true}
 use mathlib.Core.List.{List, [], ◌∷◌, ◌++◌, append_assoc, append-nil}
 use mathlib.Core.Option.{Option, none, some, bind}
-use Prim.Native.Nat.{ℕ, ◌+◌, ◌-◌, ◌≤◌}
+use Prim.Native.Nat.{ℕ, ◌≤◌}
 use native.Mathlib.Omega.{arith}
 use native.Mathlib.Decide.{dec_lt}
-use borrow.Author.Tests.{eq-eqb, ne_eqb, eqb-true}
+use borrow.Author.Tests.{eq-eqb, eqb-true}
 use lib.Dec.{eqb}
 use lib.ListN.{length, drop}
 use lib.IntN.{ℤ}
 use Rattle.protocol.specs.Answers.Number.{Value, Refused}
 use Rattle.text_format.specs.Text.{Spot, Line, bytes, names, settings_shape, spots, keep, read_line, begins_with_names, same_spot, number_answer}
 use Rattle.protocol.proofs.Tests.{and_split, and_intro}
-use Rattle.text_format.specs.Lines.{spot, read_value, read_values, read_settings}
+use Rattle.text_format.specs.Lines.{read_value, read_values, read_settings}
 use Rattle.text_format.proofs.NumeralLaws.{keep_some}
 use Rattle.text_names.proofs.Names.{names-short}
 use Rattle.text_lines.proofs.Counts.{Suffix, Found, found, keep_yes, keep_no, answer_value, answer_refused}
@@ -30,18 +30,6 @@ module _ (a b : Spot) where
   pub same_spot_lem : a.part ≡ b.part → a.item ≡ b.item → a.place ≡ b.place → same_spot a b ≡ true
   unfolding same_spot
   same_spot_lem p i k = and_intro (eq-eqb _ _ p) (and_intro (eq-eqb _ _ i) (eq-eqb _ _ k))
-
-  pub other_part : (a.part ≡ b.part → ⊥) → same_spot a b ≡ false
-  unfolding same_spot
-  other_part p = ap (λ t. t && (eqb a.item b.item && eqb a.place b.place)) (ne_eqb _ _ p)
-
-  pub other_item : a.part ≡ b.part → (a.item ≡ b.item → ⊥) → same_spot a b ≡ false
-  unfolding same_spot
-  other_item p i = λ j. eq-eqb _ _ p j && (ne_eqb _ _ i j && eqb a.place b.place)
-
-  pub other_place : a.part ≡ b.part → a.item ≡ b.item → (a.place ≡ b.place → ⊥) → same_spot a b ≡ false
-  unfolding same_spot
-  other_place p i k = λ j. eq-eqb _ _ p j && (eq-eqb _ _ i j && ne_eqb _ _ k j)
 
   pub spot_same : same_spot a b ≡ true → a ≡ b
   unfolding same_spot

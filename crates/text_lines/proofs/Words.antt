@@ -3,18 +3,15 @@
 --   word-pos                 what a word holds that was made of a number from 0 on
 --   word_value, word-cast    the same when it is cast to an unsigned word
 --   narrow-value, narrow-cast the same for a narrow number and a word of 32 bits
---   word_below, word-from    what the test whether a word is below zero says
-use mathlib.Core.Path.{◌≡◌, refl, sym, ap, subst, ◌∙◌}
-use mathlib.Core.Bool.{true, false, false≢true}
+use mathlib.Core.Path.{◌≡◌, sym, ap, subst, ◌∙◌}
 use Prim.Native.Nat.{ℕ, ◌^◌, ◌<◌, ◌≤◌}
 use native.Mathlib.Omega.{arith}
-use borrow.Author.Tests.{le-ltb}
 use lib.Dec.{T}
-use lib.IntN.{ℤ, pos, negsuc, nat_abs}
-use lib.Signed.{non_neg, lt_z}
+use lib.IntN.{ℤ, pos, nat_abs}
+use lib.Signed.{non_neg}
 use mir.Syntax.{Width, w32, w64}
-use mir.Val.{Fits, SFits, of_z, to_z}
-use mir.Facts.{to_z_pos, to_z-of_z}
+use mir.Val.{Fits, of_z, to_z}
+use mir.Facts.{to_z_pos}
 use Rattle.text_format.specs.Text.{narrow_limit}
 
 module _ (v : ℤ) (n : ℕ) (e : v ≡ pos n) (h : n < 2 ^ 63) where
@@ -36,12 +33,3 @@ module _ (v : ℤ) (n : ℕ) (e : v ≡ pos n) (h : n ≤ narrow_limit) where
   pub narrow-cast : T (non_neg (to_z w64 (of_z w64 v))) × Fits w32 (nat_abs (to_z w64 (of_z w64 v)))
   unfolding narrow_limit
   narrow-cast = word-cast v n e (omega arith) w32 (record { fits = omega arith })
-
--- the test whether a word is below zero
-pub word_below : (x : ℤ) → SFits w64 x → lt_z (to_z w64 (of_z w64 x)) (pos 0) ≡ true → (n : ℕ) × (x ≡ negsuc n)
-word_below (pos n) f t = absurd (false≢true (sym (le-ltb n 0 (omega arith)) ∙ sym (ap (λ z. lt_z z (pos 0)) (to_z-of_z f)) ∙ t))
-word_below (negsuc n) f t = (n, refl)
-
-pub word-from : (x : ℤ) → SFits w64 x → lt_z (to_z w64 (of_z w64 x)) (pos 0) ≡ false → (n : ℕ) × (x ≡ pos n) × (n < 2 ^ 63)
-word-from (pos n) f t = (n, refl, omega (arith, f.sfits))
-word-from (negsuc n) f t = absurd (false≢true (sym t ∙ ap (λ z. lt_z z (pos 0)) (to_z-of_z f)))

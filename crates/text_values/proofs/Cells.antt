@@ -4,7 +4,7 @@
 --   took-missed, took-done             what it promises where lines are missing, and where all are found
 --   took-place                         the place behind them
 use mathlib.Core.Path.{◌≡◌, refl, sym, ap, ◌∙◌}
-use mathlib.Core.Bool.{true, false, false≢true}
+use Rattle.std.specs.Prelude.{Some, None}
 use mathlib.Core.List.{List}
 use mathlib.Core.Option.{Option, none, some, some-injective}
 use Prim.Native.Nat.{ℕ, ◌+◌, ◌-◌, ◌≤◌}
@@ -13,37 +13,36 @@ use lib.ListN.{length, drop, take}
 use lib.Seq.{drop-drop}
 use lib.IntN.{ℤ}
 use Rattle.text_format.specs.Text.{Spot}
-use Rattle.text_values.specs.declared.parts.Taken.{Taken}
 use Rattle.text_format.specs.Lines.{read_values}
 use Rattle.text_values.specs.Parts.{taken_answer, Took}
 use Rattle.text_lines.proofs.Counts.{suffix-place, suffix_back}
 use Rattle.text_lines.proofs.Follow.{values-lines}
 
-pub taken-missed : (text : List ℕ) (o : Option (List ℤ × List ℕ)) (r : Taken) → r ≡ taken_answer text o → r.found ≡ false → o ≡ none
+pub taken-missed : (text : List ℕ) (o : Option (List ℤ × List ℕ)) → None ≡ taken_answer text o → o ≡ none
 unfolding taken_answer
-taken-missed text none r e t = refl
-taken-missed text (some (vs, rest)) r e t = absurd (false≢true (sym t ∙ ap (λ x. x.found) e))
+taken-missed text none e = refl
+taken-missed text (some (vs, rest)) e = let z : ◌≡◌ {A = ℕ} 0 1 = cc in absurd (omega arith)
 
-pub taken-found : (text : List ℕ) (o : Option (List ℤ × List ℕ)) (r : Taken) → r ≡ taken_answer text o → r.found ≡ true
-    → (vs : List ℤ) × (rest : List ℕ) × (o ≡ some (vs, rest)) × (r.next ≡ length text - length rest)
+pub taken-found : (text : List ℕ) (o : Option (List ℤ × List ℕ)) (next : ℕ) → Some next ≡ taken_answer text o
+    → (vs : List ℤ) × (rest : List ℕ) × (o ≡ some (vs, rest)) × (next ≡ length text - length rest)
 unfolding taken_answer
-taken-found text none r e t = absurd (false≢true (sym (ap (λ x. x.found) e) ∙ t))
-taken-found text (some (vs, rest)) r e t = (vs, rest, refl, ap (λ x. x.next) e)
+taken-found text none next e = let z : ◌≡◌ {A = ℕ} 0 1 = cc in absurd (omega arith)
+taken-found text (some (vs, rest)) next e = (vs, rest, refl, cc)
 
 -- ---- what a reader of lines promises
 
 module _ (text : List ℕ) (from : ℕ) (ss : List Spot) (values : List ℤ) where
-  pub took-missed : read_values ss (drop from text) ≡ none → Took text from ss (record { found = false; next = 0 }) values
+  pub took-missed : read_values ss (drop from text) ≡ none → Took text from ss None values
   unfolding taken_answer
   took-missed e = record {
     answer = sym (ap (taken_answer text) e);
     stored = λ vs rest f. let z : ◌≡◌ {A = ℕ} 0 1 = cc in absurd (omega arith);
   }
 
-  pub took-done : (n at : ℕ) → n ≡ length ss → at ≤ length text → read_values ss (drop from text) ≡ some (take n values, drop at text) → Took text from ss (record { found = true; next = at }) values
+  pub took-done : (n at : ℕ) → n ≡ length ss → at ≤ length text → read_values ss (drop from text) ≡ some (take n values, drop at text) → Took text from ss (Some at) values
   unfolding taken_answer
   took-done n at e h whole = record {
-    answer = (λ j. record { found = true; next = sym (suffix_back text at h) j }) ∙ sym (ap (taken_answer text) whole);
+    answer = (λ j. Some (sym (suffix_back text at h) j)) ∙ sym (ap (taken_answer text) whole);
     stored = λ vs rest f. ap (λ m. take m values) (sym e) ∙ ap (λ r. r.0) (some-injective (take n values, drop at text) (vs, rest) (sym whole ∙ f));
   }
 

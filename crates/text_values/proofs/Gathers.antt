@@ -3,6 +3,7 @@
 --   values-present       lines at wanted spots up to the end are of the stated shape
 --   followed-..          the reader of the lines behind the settings
 --   gathered-..          the reader of all values
+use Rattle.std.specs.Prelude.{Option, Some, None}
 use mathlib.Core.Path.{◌≡◌, sym, ap, subst, ◌∙◌}
 use mathlib.Core.Bool.{Bool, true, false, ◌&&◌, false≢true}
 use mathlib.Core.List.{List, [], ◌∷◌}
@@ -23,8 +24,7 @@ use Rattle.text_format.specs.Lines.{present, read_values, all_lines, settings_of
 use Rattle.text_lines.specs.Header.{header_answer}
 use Rattle.text_parts.specs.Parts.{lengths_fit}
 use Rattle.text_values.specs.Parts.{part_spots, Took}
-use Rattle.text_lines.specs.declared.header.Header.{Header}
-use Rattle.text_values.specs.declared.parts.Taken.{Taken}
+use Rattle.text_lines.specs.declared.header.Begun.{Begun}
 use Rattle.text_values.specs.Stored.{columns_in, in_order, lines_refusal, First, Followed, Gathered}
 use Rattle.text_lines.proofs.Counts.{suffix-length}
 use Rattle.text_lines.proofs.Rows.{all_end}
@@ -39,38 +39,38 @@ unfolding spots_of values_of
 spots-values ls = length-map ls _ ∙ sym (length-map ls _)
 
 -- the lines behind the settings, read from the place that it gave
-module _ (text : List ℕ) (P : Parts) (l : Looked text) (h : Header) (h-is : h ≡ header_answer text (read_settings text)) where
-  from : drop h.next text ≡ l.rest
-  from = ap (λ x. drop x.next text) (opened text l h h-is) ∙ l.begins.place_is
+module _ (text : List ℕ) (P : Parts) (l : Looked text) (b : Begun) (b-is : Some b ≡ header_answer text (read_settings text)) where
+  from : drop b.next text ≡ l.rest
+  from = ap (λ x. drop x.next text) (opened text l b b-is) ∙ l.begins.place_is
 
   abbrev wanted_spots : List Spot
   wanted_spots = part_spots (settings_of l.values) P
 
-  module _ (r : Taken) (values : List ℤ) (t : Took text h.next (part_spots h.settings P) r values) where
-    took : Took text h.next wanted_spots r values
-    took = subst (λ S. Took text h.next (part_spots S P) r values) (opened_settings text l h h-is) t
+  module _ (r : Option ℕ) (values : List ℤ) (t : Took text b.next (part_spots b.settings P) r values) where
+    took : Took text b.next wanted_spots r values
+    took = subst (λ S. Took text b.next (part_spots S P) r values) (opened_settings text l b b-is) t
 
-    missed-order : r.found ≡ false → false ≡ in_order P text
+    missed-order : r ≡ None → false ≡ in_order P text
     missed-order e = sym (looked-order text P l
-        ∙ order-missed wanted_spots l.rest l.more l.more_is (ap (read_values wanted_spots) (sym from) ∙ taken-missed text _ r took.answer e))
+        ∙ order-missed wanted_spots l.rest l.more l.more_is (ap (read_values wanted_spots) (sym from) ∙ taken-missed text _ (sym e ∙ took.answer)))
 
-    module _ (e : r.found ≡ true) where
-      read_on : (vs : List ℤ) × (end : List ℕ) × (read_values wanted_spots (drop h.next text) ≡ some (vs, end)) × (r.next ≡ length text - length end)
-      read_on = taken-found text _ r took.answer e
+    module _ (next : ℕ) (e : r ≡ Some next) where
+      read_on : (vs : List ℤ) × (end : List ℕ) × (read_values wanted_spots (drop b.next text) ≡ some (vs, end)) × (next ≡ length text - length end)
+      read_on = taken-found text _ next (sym e ∙ took.answer)
 
       read_rest : read_values wanted_spots l.rest ≡ some (read_on.0, read_on.1)
       read_rest = ap (read_values wanted_spots) (sym from) ∙ read_on.2
 
-      found-order : eqb r.next (length text) ≡ in_order P text
+      found-order : eqb next (length text) ≡ in_order P text
       found-order =
-          order-found wanted_spots l.rest l.more l.more_is read_on.0 read_on.1 read_rest r.next (length text) (omega (arith, l.begins.shorter)) read_on.3
+          order-found wanted_spots l.rest l.more l.more_is read_on.0 read_on.1 read_rest next (length text) (omega (arith, l.begins.shorter)) read_on.3
           ∙ sym (looked-order text P l)
 
-      found-stored : eqb r.next (length text) ≡ true → First (columns_in (lines_of text)) values
+      found-stored : eqb next (length text) ≡ true → First (columns_in (lines_of text)) values
       found-stored f =
           let (vs, end, found, next-is) = read_on in
           let shorter = suffix-length (values-lines wanted_spots l.rest vs end read_rest).ends in
-          let nothing : length end ≡ 0 = omega (arith, eqb-true r.next (length text) f, l.begins.shorter) in
+          let nothing : length end ≡ 0 = omega (arith, eqb-true next (length text) f, l.begins.shorter) in
           let spots_are = order-spots wanted_spots l.rest l.more l.more_is vs end read_rest nothing in
           let values_are = order-values wanted_spots l.rest l.more l.more_is vs end read_rest nothing in
           let columns-is : columns_in (lines_of text) ≡ vs = looked-columns text P l spots_are ∙ values_are in
@@ -84,7 +84,7 @@ values-present ss bs vs [] e h = let k = values-lines ss bs vs [] e in ap presen
 values-present ss bs vs (b ∷ cs) e h = absurd (omega arith)
 
 -- the reader of the lines behind the settings, by the answer of the reader of the settings
-module _ (text : List ℕ) (P : Parts) (h : Header) (h-is : h ≡ header_answer text (read_settings text)) where
+module _ (text : List ℕ) (P : Parts) (b : Begun) (b-is : Some b ≡ header_answer text (read_settings text)) where
   module _ (values : List ℤ) where
     refused-before : (look_refusal text ≡ 0 → ⊥) → Followed P text false values
     refused-before n = record { unrefused = λ f. absurd (false≢true f); answer = λ e. absurd (n e); stored = λ f. absurd (false≢true f) }
@@ -92,38 +92,32 @@ module _ (text : List ℕ) (P : Parts) (h : Header) (h-is : h ≡ header_answer 
     pub followed_long : text_limit < length text → Followed P text false values
     followed_long n = refused-before (λ e. absurd (omega (arith, (looked text e).short)))
 
-    pub followed_unbegun : h.found ≡ false → Followed P text false values
-    followed_unbegun f = refused-before (λ e. false≢true (sym f ∙ ap (λ x. x.found) (opened text (looked text e) h h-is)))
-
-    pub followed_disallowed : (settings_refusal h.settings ≡ 0 → ⊥) → Followed P text false values
-    followed_disallowed n = refused-before (λ e. n (ap settings_refusal (opened_settings text (looked text e) h h-is) ∙ (looked text e).allowed))
-
-    module _ (r : Taken) (t : Took text h.next (part_spots h.settings P) r values) where
-      pub followed-missed : r.found ≡ false → Followed P text false values
+    module _ (r : Option ℕ) (t : Took text b.next (part_spots b.settings P) r values) where
+      pub followed-missed : r ≡ None → Followed P text false values
       followed-missed f = record {
         unrefused = λ g. absurd (false≢true g);
-        answer = λ e. missed-order text P (looked text e) h h-is r values t f;
+        answer = λ e. missed-order text P (looked text e) b b-is r values t f;
         stored = λ g. absurd (false≢true g);
       }
 
-      module _ (short : length text ≤ text_limit) (begun : h.found ≡ true) (allowed : settings_refusal h.settings ≡ 0) (f : r.found ≡ true) where
-        ended-unrefused : eqb r.next (length text) ≡ true → look_refusal text ≡ 0
+      module _ (short : length text ≤ text_limit) (allowed : settings_refusal b.settings ≡ 0) (next : ℕ) (f : r ≡ Some next) where
+        ended-unrefused : eqb next (length text) ≡ true → look_refusal text ≡ 0
         unfolding choose
         ended-unrefused g =
-            let (vs, rest, begins, settings-is, place_is) = header-found text h h-is begun in
-            let (ws, end, read, next-is) = taken-found text _ r t.answer f in
-            let on : read_values (part_spots h.settings P) rest ≡ some (ws, end) = ap (read_values (part_spots h.settings P)) (sym place_is) ∙ read in
-            let shorter = suffix-length (values-lines (part_spots h.settings P) rest ws end on).ends in
-            let nothing : length end ≡ 0 = omega (arith, eqb-true r.next (length text) g, begins.shorter) in
+            let (vs, rest, begins, settings-is, place_is) = header-found text b b-is in
+            let (ws, end, read, next-is) = taken-found text _ next (sym f ∙ t.answer) in
+            let on : read_values (part_spots b.settings P) rest ≡ some (ws, end) = ap (read_values (part_spots b.settings P)) (sym place_is) ∙ read in
+            let shorter = suffix-length (values-lines (part_spots b.settings P) rest ws end on).ends in
+            let nothing : length end ≡ 0 = omega (arith, eqb-true next (length text) g, begins.shorter) in
             settled-look text vs rest begins short
-            ∙ ap (λ b. choose b (settings_refusal (settings_of vs)) 2) (values-present (part_spots h.settings P) rest ws end on nothing)
+            ∙ ap (λ p. choose p (settings_refusal (settings_of vs)) 2) (values-present (part_spots b.settings P) rest ws end on nothing)
             ∙ ap settings_refusal (sym settings-is) ∙ allowed
 
-        pub followed-found : Followed P text (eqb r.next (length text)) values
+        pub followed-found : Followed P text (eqb next (length text)) values
         followed-found = record {
           unrefused = ended-unrefused;
-          answer = λ e. found-order text P (looked text e) h h-is r values t f;
-          stored = λ g. found-stored text P (looked text (ended-unrefused g)) h h-is r values t f g;
+          answer = λ e. found-order text P (looked text e) b b-is r values t next f;
+          stored = λ g. found-stored text P (looked text (ended-unrefused g)) b b-is r values t next f g;
         }
 
 -- refusals 1 to 7, after a first look

@@ -3,16 +3,17 @@
 
 mod parts;
 
-ghost use Rattle.std.specs.Prelude.{◌≡◌, true, ◌≤◌, length};
+ghost use Rattle.std.specs.Prelude.{◌≡◌, true, ◌≤◌, length, OnOk};
+ghost use Rattle.protocol.specs.Answers.{as_loaded};
 ghost use Rattle.protocol.specs.Basic.{Provided};
 ghost use Rattle.text_parts.specs.Flat.{total};
 ghost use Rattle.text_lines.specs.Header.{Begins};
 ghost use Rattle.text_values.specs.Parts.{RoomFor, Roomy};
 ghost use Rattle.text_values.specs.Stored.{Followed, Gathered};
 
-use protocol::{Loaded, Parts, Settings};
+use protocol::{Parts, Refusal, Settings};
 use text_format::TEXT_LIMIT;
-use text_lines::{read_settings, refused};
+use text_lines::read_settings;
 use text_parts::{TABLES, fits};
 
 // Do the lines of a text that begins with these settings go on with the required ones up to its end, where its length is allowed. All lines are then of the
@@ -30,11 +31,10 @@ fn read_wanted(
     if text.len() > TEXT_LIMIT {
         return false;
     }
-    let taken = parts::read_parts(settings, parts, text, from, values);
-    if !taken.found {
+    let Some(next) = parts::read_parts(settings, parts, text, from, values) else {
         return false;
-    }
-    taken.next == text.len()
+    };
+    next == text.len()
 }
 
 // Refusals 1 to 7 of a text that begins with these settings and is read into tables of these lengths. Where nothing is refused its values stand first in
@@ -46,22 +46,17 @@ pub fn read_values(
     text: &[u8],
     lengths: [usize; TABLES],
     values: &mut [i64],
-) -> Loaded
-    ensures gathered { Provided (Begins text.now settings from × Roomy (length text.now) (length values.old)) (Gathered parts lengths text.now result values.new) }
-    ensures room { result.refusal ≡ 0 → total lengths ≤ length values.new }
+) -> Result<Settings, Refusal>
+    ensures gathered { Provided (Begins text.now settings from × Roomy (length text.now) (length values.old))
+        (Gathered parts lengths text.now (as_loaded result) values.new) }
+    ensures room { OnOk result (total lengths ≤ length values.new) }
 {
     if !read_wanted(parts, settings, from, text, values) {
-        let loaded = read_settings(text);
-        if loaded.refusal != 0 {
-            return loaded;
-        }
-        return refused(7);
+        read_settings(text)?;
+        return Err(Refusal::Size);
     }
     if !fits(settings, parts, lengths) {
-        return refused(7);
+        return Err(Refusal::Size);
     }
-    Loaded {
-        refusal: 0,
-        settings,
-    }
+    Ok(settings)
 }

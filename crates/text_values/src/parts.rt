@@ -1,5 +1,5 @@
 // The lines of a part, read one after the other.
-ghost use Rattle.std.specs.Prelude.{◌≡◌, true, ◌*◌, ◌≤◌, length};
+ghost use Rattle.std.specs.Prelude.{◌≡◌, ◌*◌, ◌≤◌, length, IsSome};
 ghost use Rattle.protocol.specs.Basic.{Provided};
 ghost use Rattle.protocol.specs.Settings.{settings_refusal};
 ghost use Rattle.text_format.specs.Text.{shape_size, spots};
@@ -8,44 +8,30 @@ ghost use Rattle.text_values.specs.Parts.{part_spots, Took, RoomFor};
 
 use protocol::{Number, Parts, Settings};
 use text_lines::value_at;
-use text_parts::{Cell, Shape, TABLES, next_cell, shape_of, size_of};
+use text_parts::{Cell, Shape, TABLES, shape_of};
 
 // How many parts there are, the settings being part 0.
 const PARTS: u32 = (TABLES as u32) + 1;
 
-// Were all lines found, and the place behind them.
-#[derive(Clone, Copy)]
-pub struct Taken {
-    pub found: bool,
-    pub next: usize,
-}
-
-// The values of the lines of a part, from a place on.
-pub fn read_part(text: &[u8], from: usize, shape: Shape, values: &mut [i64]) -> Taken
+// The values of the lines of a part, from a place on; the place behind them, where all of them are found.
+pub fn read_part(text: &[u8], from: usize, shape: Shape, values: &mut [i64]) -> Option<usize>
     requires { shape_size (as_shape shape) ≤ length values.old }
     ensures { Provided (from ≤ length text.now) (Took text.now from (spots (as_shape shape)) result values.new) }
 {
-    let size = size_of(shape);
+    let size = shape.size();
     let mut at = from;
     let mut cell = Cell { item: 0, place: 0 };
-    let mut p: usize = 0;
-    while p < size {
-        let Number::Value { value, next } = value_at(text, at, shape.part, cell.item, cell.place)
+    // By index: of a table that is written through `iter_mut` its length alone is known behind the loop.
+    for p in 0..size {
+        let Ok(Number { value, next }) = value_at(text, at, shape.part, cell.item, cell.place)
         else {
-            return Taken {
-                found: false,
-                next: 0,
-            };
+            return None;
         };
         values[p] = value;
         at = next;
-        cell = next_cell(cell, shape.places);
-        p += 1;
+        cell = cell.next(shape.places);
     }
-    Taken {
-        found: true,
-        next: at,
-    }
+    Some(at)
 }
 
 // The values of the lines behind the settings, part after part. A line has at least eight bytes, so where there is no room for the values of
@@ -56,36 +42,21 @@ pub fn read_parts(
     text: &[u8],
     from: usize,
     values: &mut [i64],
-) -> Taken
+) -> Option<usize>
     ensures lines { Provided ((settings_refusal settings ≡ 0) × (from ≤ length text.now) × (length text.now ≤ 8 * length values.old))
         (Took text.now from (part_spots settings parts) result values.new) }
-    ensures room { result.found ≡ true → RoomFor settings parts (length values.new) }
+    ensures room { IsSome result → RoomFor settings parts (length values.new) }
 {
     let mut at = from;
     let mut start: usize = 0;
-    let mut part: u32 = 1;
-    while part < PARTS {
+    for part in 1..PARTS {
         let shape = shape_of(settings, parts, part);
-        let size = size_of(shape);
+        let size = shape.size();
         if size > values.len() - start {
-            return Taken {
-                found: false,
-                next: 0,
-            };
+            return None;
         }
-        let taken = read_part(text, at, shape, &mut values[start..]);
-        if !taken.found {
-            return Taken {
-                found: false,
-                next: 0,
-            };
-        }
-        at = taken.next;
+        at = read_part(text, at, shape, &mut values[start..])?;
         start += size;
-        part += 1;
     }
-    Taken {
-        found: true,
-        next: at,
-    }
+    Some(at)
 }

@@ -7,7 +7,7 @@ use lib.IntN.{ℤ}
 use lib.ListN.{length, get_or}
 use Rattle.protocol.specs.declared.Settings.{Settings}
 use Rattle.protocol.specs.Basic.{every}
-use Rattle.protocol.specs.Element.{width, value_row}
+use Rattle.protocol.specs.Element.{width}
 use Rattle.protocol.specs.Layout.{item_cells, round_items, round_cells}
 use Rattle.protocol.specs.Inputs.{Below}
 use Rattle.protocol.specs.Settings.{settings_refusal}

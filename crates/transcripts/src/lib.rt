@@ -1,7 +1,9 @@
-// The check of a whole transcript: its refusal, and then row by row a core on slices that copies no element of the tables.
+// The check of a whole transcript: its refusal, and then row by row a core on slices that copies no element of the tables. The parts of a transcript are parameters one
+// by one, as the calls take them: a contract over a struct that holds references has to name each part as `parts.entry.rounds.now`, which is no plainer.
 #![tactic(auto)]
 
 ghost use Rattle.std.specs.Prelude.{true, ◌≡◌, ◌<◌, length};
+ghost use Rattle.protocol.specs.Answers.{as_checked, as_verdict};
 ghost use Rattle.protocol.specs.Basic.{every, Provided};
 ghost use Rattle.protocol.specs.Layout.{item_cells, round_items};
 ghost use Rattle.protocol.specs.Transcript as transcript;
@@ -11,7 +13,7 @@ ghost use Rattle.protocol.specs.Calls.{check_answer, check_number};
 ghost use Rattle.equations.specs.Items.{row_table};
 ghost use Rattle.transcripts.specs.Given.{RoundsGiven, RowGiven, Sized, TranscriptGiven, Held, lent_row, row_at};
 
-use protocol::{Checked, ROWS_WIDTH, Residue, Settings, Verdict, WIDTH};
+use protocol::{Item, Refusal, Residue, Settings, Verdict, WIDTH};
 use residues::elements;
 
 // Does every round of a row hold, from the claim before the first. Where every round does, `claim` is then the claim after the last.
@@ -24,15 +26,12 @@ fn rounds_hold(
     ensures { Provided (RoundsGiven settings rounds.now (length claim.old))
         (Held settings (row_table settings (round_items settings) rounds.now) challenges.now claim.old claim.new result) }
 {
-    let depth = settings.depth;
-    let mut t: u32 = 0;
-    while t < depth {
+    for t in 0..settings.depth {
         if !equations::rounds::polynomial_holds(settings, t, claim, rounds) {
             return false;
         }
-        let e = elements::entry(challenges, t as usize);
+        let e = challenges.get(t as usize).copied().unwrap_or(0);
         equations::rounds::next_claim(settings, t, e, rounds, claim);
-        t += 1;
     }
     true
 }
@@ -102,15 +101,8 @@ fn every_row_accepted(
         (result ≡ every settings.rows (λ i. transcript.accepted settings (key_row settings key.now i)
         (row_at settings step commitment.now rounds.now challenges.now last.now i))) }
 {
-    let rows = settings.rows as usize;
-    let mut i: usize = 0;
-    while i < rows {
-        if !accepted_at(settings, i, step, commitment, last, key, rounds, challenges) {
-            return false;
-        }
-        i += 1;
-    }
-    true
+    let n = settings.rows as usize;
+    (0..n).all(|i| accepted_at(settings, i, step, commitment, last, key, rounds, challenges))
 }
 
 // Is a transcript accepted, the commitment being a flat table.
@@ -131,72 +123,47 @@ pub fn accepted(
           last = last.now;
         }))) }
 {
-    if ranges::tests::settings_refusal(settings) != 0 {
+    let step = settings.degree as usize;
+    let sized = (commitment.len() == sizes::item_cells(settings))
+        & (key.len() == sizes::key_cells(settings))
+        & (rounds.len() == sizes::round_cells(settings));
+    if ranges::tests::allow(settings).is_err() || !sized {
         return false;
     }
-    if commitment.len() != sizes::item_cells(settings) {
-        return false;
-    }
-    if key.len() != sizes::key_cells(settings) {
-        return false;
-    }
-    if rounds.len() != sizes::round_cells(settings) {
-        return false;
-    }
-    every_row_accepted(
-        settings,
-        settings.degree as usize,
-        commitment,
-        last,
-        key,
-        rounds,
-        challenges,
-    )
+    every_row_accepted(settings, step, commitment, last, key, rounds, challenges)
 }
 
 // The check of a transcript, as a call that is lent the elements.
 pub fn check_lent(
     settings: Settings,
-    commitment: &[Residue; ROWS_WIDTH],
+    commitment: &Item,
     last: &[i32; WIDTH],
     key: &[Residue],
     rounds: &[Residue],
     challenges: &[u32],
-) -> Checked
-    ensures { result ≡ check_answer settings commitment.now last.now key.now rounds.now challenges.now }
+) -> Result<Verdict, Refusal>
+    ensures { as_checked result ≡ check_answer settings commitment.now last.now key.now rounds.now challenges.now }
 {
-    let refusal = verifier_refusals::transcript::check(
-        settings, commitment, key, rounds, challenges,
-    );
-    if refusal != 0 {
-        return Checked {
-            refusal,
-            verdict: Verdict::Silent,
-        };
-    }
-    if every_row_accepted(settings, WIDTH, commitment, last, key, rounds, challenges) {
-        return Checked {
-            refusal: 0,
-            verdict: Verdict::Accepted,
-        };
-    }
-    Checked {
-        refusal: 0,
-        verdict: Verdict::Rejected,
-    }
+    verifier_refusals::transcript::check(settings, commitment, key, rounds, challenges)?;
+    let accepted = every_row_accepted(settings, WIDTH, commitment, last, key, rounds, challenges);
+    Ok(if accepted {
+        Verdict::Accepted
+    } else {
+        Verdict::Rejected
+    })
 }
 
 // The same by value.
 pub fn check(
     settings: Settings,
-    commitment: [Residue; ROWS_WIDTH],
+    commitment: Item,
     last: [i32; WIDTH],
     key: &[Residue],
     rounds: &[Residue],
     challenges: &[u32],
-) -> Checked
-    ensures answer { result ≡ check_answer settings commitment last key.now rounds.now challenges.now }
-    ensures verdict { verdict_number result.verdict ≡ check_number settings commitment last key.now rounds.now challenges.now }
+) -> Result<Verdict, Refusal>
+    ensures answer { as_checked result ≡ check_answer settings commitment last key.now rounds.now challenges.now }
+    ensures verdict { verdict_number (as_verdict result) ≡ check_number settings commitment last key.now rounds.now challenges.now }
 {
     check_lent(settings, &commitment, &last, key, rounds, challenges)
 }

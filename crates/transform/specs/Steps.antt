@@ -1,14 +1,14 @@
 -- What the steps under the calls do to their lists.
 --
---   Whole f k v          the number v stands for coefficient k of f, where that is at most 2^16 from 0
+--   Stands16 z v         the number v, which may be transformed, stands for z, where that is at most 2^16 from 0
 --   Written P l n s m      m is the room s but for the first n places of strand l; there place k has a number of which P holds
 --   with_product x y s j  the sum s of place j with the product of x and y there added
 --   with_products x y s   the sums s with these products added
 --   total s at n          the sum of n numbers of s from place `at` on
 --   gathered s z          the list z filled with the sums of the numbers of each place of s, reduced
 --   Multiple D F v        v stands for the element F, 2^D times
-use Rattle.std.specs.Prelude.{◌≡◌, ℕ, zero, suc, ◌+◌, ◌*◌, ◌/◌, ◌%◌, ◌^◌, ◌<◌, ◌≤◌, List, length, ℤ, pos, slice_index, slice_index_or, unsigned_abs}
-use Rattle.algebra.specs.Ring.{CommRing, two, pow}
+use Rattle.std.specs.Prelude.{◌≡◌, ℕ, zero, suc, ◌+◌, ◌*◌, ◌/◌, ◌%◌, ◌^◌, ◌<◌, ◌≤◌, List, length, ℤ, slice_index, unsigned_abs}
+use Rattle.algebra.specs.Ring.{two, pow}
 use Rattle.algebra.specs.Integers.{ofℤ}
 use Rattle.protocol.specs.Basic.{Provided}
 use Rattle.protocol.specs.Element.{Element}
@@ -16,8 +16,8 @@ use Rattle.residues.specs.Lists.{filled}
 use Rattle.powers.specs.Powers.{modulus, K, res, seen}
 use Rattle.transform.specs.Strands.{strands}
 
-abbrev pub Whole : List ℤ → ℕ → ℕ → Type 0
-Whole f k v = (v < 4 * modulus) × Provided (unsigned_abs (slice_index_or f k (pos 0)) ≤ 2 ^ 16) (res v ≡ ofℤ K (slice_index_or f k (pos 0)))
+abbrev pub Stands16 : ℤ → ℕ → Type 0
+Stands16 z v = (v < 4 * modulus) × Provided (unsigned_abs z ≤ 2 ^ 16) (res v ≡ ofℤ K z)
 
 pub record Written (P : ℕ → ℕ → Type 0) (l n : ℕ) (s m : List ℕ) : Type 0 where
   pub same : length m ≡ length s

@@ -11,7 +11,6 @@
 --   capacity              28: how many products a sum has room for
 --   Added D F G H ..      what has to hold so that a batch of products is added to sums that stand for H
 use Rattle.std.specs.Prelude.{◌≡◌, ℕ, ◌+◌, ◌*◌, ◌^◌, ◌<◌, ◌≤◌, List, length, ℤ, pos, slice_index, slice_index_or, unsigned_abs}
-use Rattle.algebra.specs.Ring.{CommRing}
 use Rattle.algebra.specs.Sum.{sum}
 use Rattle.algebra.specs.Integers.{ofℤ}
 use Rattle.algebra.specs.Transform.{value}

@@ -2,7 +2,7 @@
 // sums come back once. What is transformed of a message serves every row of a key. Every function is safe for every input.
 #![tactic(auto)]
 
-ghost use Rattle.std.specs.Prelude.{◌≡◌, ℕ, ◌+◌, ◌-◌, ◌*◌, ◌/◌, ◌%◌, ◌^◌, ◌<◌, ◌≤◌, length, slice_index, unsigned_abs};
+ghost use Rattle.std.specs.Prelude.{◌≡◌, ℕ, ◌+◌, ◌-◌, ◌*◌, ◌/◌, ◌%◌, ◌^◌, ◌<◌, ◌≤◌, length, get_or, slice_index, unsigned_abs};
 ghost use Rattle.algebra.specs.Integers.{ofℤ};
 ghost use Rattle.protocol.specs.Basic.{Provided, tabulate};
 ghost use Rattle.protocol.specs.Element.{Element, width, plus, padded};
@@ -10,7 +10,7 @@ ghost use Rattle.protocol.specs.Element as element;
 ghost use Rattle.protocol.specs.Opening.{inner};
 ghost use Rattle.powers.specs.Powers.{K, res, Below};
 ghost use Rattle.transform.specs.Strands.{strands, Room, Filled, Values, MessagePlaced, ResiduesPlaced, Stands, Added};
-ghost use Rattle.transform.specs.Steps.{Whole, Written, with_products, total, gathered, Multiple};
+ghost use Rattle.transform.specs.Steps.{Stands16, Written, with_products, total, gathered, Multiple};
 
 use protocol::{Residue, WIDTH};
 
@@ -28,56 +28,68 @@ fn reduced(x: i32) -> u16
     (t - (part as u32) * 12289) as u16
 }
 
-// The first d numbers of f, to strand l.
-fn write_message(d: usize, l: usize, f: &[i32], x: &mut [u16])
-    requires { (l < strands) × (d ≤ length f.now) × (d * strands ≤ length x.old) }
-    ensures { Written (Whole f.now) l d x.old x.new }
-{
-    for k in 0..d {
-        x[k * STRANDS + l] = reduced(f[k]);
+// A number that may be placed: a number of 16 bits stands for it.
+trait Placed: Copy {
+    ghost stands: { Self → ℕ → Type 0 };
+
+    fn number(self) -> u16
+        ensures { stands self result };
+}
+
+impl Placed for i32 {
+    ghost stands = { Stands16 };
+
+    fn number(self) -> u16 {
+        reduced(self)
     }
 }
 
-// The same for residues.
-fn write_residues(d: usize, l: usize, g: &[Residue], y: &mut [u16])
-    requires { (l < strands) × (d ≤ length g.now) × (d * strands ≤ length y.old) }
-    ensures { Written (λ k v. v ≡ slice_index g.now k % 2 ^ 16) l d y.old y.new }
-{
-    for k in 0..d {
-        y[k * STRANDS + l] = (g[k] % 65536) as u16;
+impl Placed for Residue {
+    ghost stands = { λ x v. v ≡ x % 2 ^ 16 };
+
+    fn number(self) -> u16 {
+        (self % 65536) as u16
     }
+}
+
+// The first d numbers of a table, to strand l.
+fn write<T: Placed>(d: usize, l: usize, t: &[T], x: &mut [u16])
+    requires { (l < strands) × (d ≤ length t.now) × (d * strands ≤ length x.old) }
+    ensures { (z : T) → Written (λ k. T.stands (get_or t.now k z)) l d x.old x.new }
+{
+    for (k, y) in t[..d].iter().enumerate() {
+        x[k * STRANDS + l] = y.number();
+    }
+}
+
+// The same where there are so many, and room for them.
+fn place<T: Placed>(d: usize, l: usize, t: &[T], x: &mut [u16])
+    ensures { Provided ((l < strands) × (d ≤ length t.now) × (d * strands ≤ length x.old)) ((z : T) → Written (λ k. T.stands (get_or t.now k z)) l d x.old x.new) }
+{
+    if l >= STRANDS {
+        return;
+    }
+    if t.len() < d {
+        return;
+    }
+    if x.len() / STRANDS < d {
+        return;
+    }
+    write(d, l, t, x);
 }
 
 // An element of whole numbers, to strand l of a room.
 pub fn place_message(d: usize, l: usize, f: &[i32], x: &mut [u16])
     ensures { (D : ℕ) (F : ℕ → Element) → Provided (MessagePlaced D d l f.now F x.old) (Filled D (l + 1) F x.new) }
 {
-    if l >= STRANDS {
-        return;
-    }
-    if f.len() < d {
-        return;
-    }
-    if x.len() / STRANDS < d {
-        return;
-    }
-    write_message(d, l, f, x);
+    place(d, l, f, x);
 }
 
 // The same for residues.
 pub fn place_residues(d: usize, l: usize, g: &[Residue], y: &mut [u16])
     ensures { (D : ℕ) (G : ℕ → Element) → Provided (ResiduesPlaced D d l g.now G y.old) (Filled D (l + 1) G y.new) }
 {
-    if l >= STRANDS {
-        return;
-    }
-    if g.len() < d {
-        return;
-    }
-    if y.len() / STRANDS < d {
-        return;
-    }
-    write_residues(d, l, g, y);
+    place(d, l, g, y);
 }
 
 // The transform of sixteen elements.
@@ -100,8 +112,8 @@ fn add_products(x: &[u16], y: &[u16], sums: &mut [u32])
     requires { (length sums.old ≤ length x.now) × (length sums.old ≤ length y.now) }
     ensures { Provided (Below 49156 x.now × Below 49156 y.now) (sums.new ≡ with_products x.now y.now sums.old) }
 {
-    for j in 0..sums.len() {
-        sums[j] = std::num::wrapping_add_u32(sums[j], least(x[j]) * least(y[j]));
+    for (j, s) in sums.iter_mut().enumerate() {
+        *s = s.wrapping_add(least(x[j]) * least(y[j]));
     }
 }
 
@@ -126,8 +138,8 @@ fn added(s: &[u32], at: usize) -> u16
     ensures { result ≡ total s.now at strands % 12289 }
 {
     let mut sum: u64 = 0;
-    for l in 0..STRANDS {
-        sum = sum + (s[at + l] as u64);
+    for x in &s[at..at + STRANDS] {
+        sum += u64::from(*x);
     }
     (sum % 12289) as u16
 }
@@ -137,8 +149,8 @@ fn gather(sums: &[u32], out: &mut [u16])
     requires { length out.old * strands ≤ length sums.now }
     ensures { out.new ≡ gathered sums.now out.old }
 {
-    for k in 0..out.len() {
-        out[k] = added(sums, k * STRANDS);
+    for (k, x) in out.iter_mut().enumerate() {
+        *x = added(sums, k * STRANDS);
     }
 }
 
@@ -157,7 +169,7 @@ fn scaled(x: u16, c: u64) -> Residue
     requires { c ≤ 12289 }
     ensures { result ≡ x * c % 12289 }
 {
-    (x as u64) * c % 12289
+    u64::from(x) * c % 12289
 }
 
 // The first d numbers of r, divided by d: 12289 − 12288/d is the inverse of d.
@@ -167,8 +179,9 @@ fn divided(d: usize, r: &[u16; WIDTH]) -> [Residue; WIDTH]
 {
     let mut a = [0u64; WIDTH];
     let c = 12289 - 12288 / (d as u64);
-    for k in 0..d {
-        a[k] = scaled(r[k], c);
+    let front = &mut a[..d];
+    for (k, x) in front.iter_mut().enumerate() {
+        *x = scaled(r[k], c);
     }
     a
 }

@@ -9,7 +9,9 @@ use lib.ListN.{length}
 use Rattle.protocol.specs.declared.Settings.{Settings}
 use Rattle.protocol.specs.declared.Session.{Session}
 use Rattle.protocol.specs.Answers.{Started}
-use Rattle.protocol.specs.Answers.{Moved}
+use Rattle.std.specs.Prelude.{Ok}
+use Rattle.protocol.specs.declared.Verdict.{Verdict as Says}
+use Rattle.protocol.specs.Answers.{Moved, said}
 use Rattle.protocol.specs.Answers.Verdict.{Silent, Holds, Rejected}
 use Rattle.protocol.specs.Basic.{choose}
 use Rattle.protocol.specs.Element.{zeros, value_row, residue}
@@ -27,7 +29,7 @@ use Rattle.protocol.proofs.Refusals.{none-refused}
 use Rattle.row_equations.specs.Given.{RowsEvaluable}
 use Rattle.verifier_refusals.specs.declared.Progress.{Progress}
 use Rattle.verifier_refusals.specs.Lent.{record_of, lent_rows, lent_polynomial, RoundLent}
-use Rattle.verifier.specs.Records.{shut_of, counted_of, row_read}
+use Rattle.verifier.specs.Records.{shut_of, counted_of, row_read, moved_with}
 
 -- ---- start
 
@@ -49,9 +51,9 @@ module _ (S : Settings) (C : List ℕ) where
 
 -- ---- round
 
--- an answer, and the number of its verdict
-pub round-answered : (r : Session) (p : List (List ℕ)) (e : ℕ) (m : Moved) → m ≡ round r p e → (m ≡ round r p e) × (verdict_number m.verdict ≡ session_round_number r p e)
-round-answered r p e m is = (is, ap (λ x. verdict_number x.verdict) is ∙ session-round-number r p e)
+-- the number of an answer's verdict
+pub round-answered : (r : Session) (p : List (List ℕ)) (e : ℕ) (m : Moved) → m ≡ round r p e → verdict_number m.verdict ≡ session_round_number r p e
+round-answered r p e m is = ap (λ x. verdict_number x.verdict) is ∙ session-round-number r p e
 
 module _ (b : Progress) (own : List ℕ) (w : ℕ) (c0 c1 c2 : List ℕ) (e : ℕ) where
   abbrev r : Session
@@ -102,8 +104,8 @@ module _ (b : Progress) (own : List ℕ) (w : ℕ) (c0 c1 c2 : List ℕ) (e : �
 
 -- ---- end
 
-pub end-answered : (r : Session) (f : List ℤ) (key : List ℕ) (m : Moved) → m ≡ end r f key → (m ≡ end r f key) × (verdict_number m.verdict ≡ session_end_number r f key)
-end-answered r f key m is = (is, ap (λ x. verdict_number x.verdict) is ∙ session-end-number r f key)
+pub end-answered : (r : Session) (f : List ℤ) (key : List ℕ) (m : Moved) → m ≡ end r f key → verdict_number m.verdict ≡ session_end_number r f key
+end-answered r f key m is = ap (λ x. verdict_number x.verdict) is ∙ session-end-number r f key
 
 module _ (b : Progress) (own : List ℕ) (f : List ℤ) (key : List ℕ) where
   abbrev closing : Session
@@ -129,3 +131,8 @@ module _ (b : Progress) (own : List ℕ) (f : List ℤ) (key : List ℕ) where
       ◌≡◌ {A = Moved} (record { refusal = 0; verdict = verdict t; next = record_of next own }) (end closing f key)
   unfolding end shut
   end_done z t h next s = (λ i. record { refusal = 0; verdict = verdict (sym h i); next = record_of (s i) own }) ∙ sym (granted-zero (session_end_refusal closing key) _ _ z)
+
+  -- the same, as the code says it
+  pub end-said : session_end_refusal closing key ≡ 0 → (t : Bool) → session_end_holds closing f key ≡ t → (v : Says) → said v ≡ verdict t → (next : Progress) → next ≡ shut_of b →
+      moved_with (record { said = Ok v; next = next }) own ≡ end closing f key
+  end-said z t h v e next s = (λ i. record { refusal = 0; verdict = e i; next = record_of next own }) ∙ end_done z t h next s

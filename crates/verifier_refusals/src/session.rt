@@ -1,4 +1,5 @@
-// The refusals of the verifier's session. Records and elements are lent (`Lent` of the definitions).
+// The refusals of the verifier's session. Records and elements are lent (`Lent` of the definitions). The step and the three elements of a round are parameters one by
+// one: a contract over a struct that holds references has to name each part at entry or at exit, as `lent.entry.c0.now`, which is no plainer.
 ghost use Rattle.std.specs.Prelude.{◌≡◌, ◌&&◌, length};
 ghost use Rattle.protocol.specs.Basic.{Provided};
 ghost use Rattle.protocol.specs.Layout.{rows_width};

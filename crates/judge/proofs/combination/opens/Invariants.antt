@@ -1,7 +1,7 @@
--- The loop keeps: the first k places agree.
-use Rattle.std.proofs.Common.{◌≡◌, true}
+-- The first k places agree.
+use Rattle.std.proofs.Common.{◌≡◌, ℕ, true}
 use Rattle.protocol.specs.Basic.{every}
-use Rattle.judge.proofs.Places.{same}
+use Rattle.judge.proofs.Same.{same}
 use Rattle.judge.proofs.combination.opens.Given as goal
 
 abbrev pub invariant-loop-k : goal.invariant-loop-k

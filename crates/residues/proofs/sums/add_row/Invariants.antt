@@ -8,5 +8,5 @@ abbrev pub invariant-loop-k : goal.invariant-loop-k
 invariant-loop-k g l =
     let z = g.T.Entry.NONE in
     let allowed = g.S.Sum.allowed l.by in
-    let sum = g.S.Sum.sum l.by in
+    let sum = g.S.Sum.sum l.by l.negative in
     Allowed z allowed sum l.fn.sums l.row → l.sums ≡ filled (both z allowed sum l.fn.sums l.row) l.k l.fn.sums
