@@ -1,5 +1,5 @@
 -- What is left of both tables in a round may be folded, and every row of a key is.
-use mathlib.Core.Path.{◌≡◌, refl, sym, ap, ◌∙◌, subst}
+use mathlib.Core.Path.{◌≡◌, sym, ap, ◌∙◌, subst}
 use mathlib.Core.List.{List, ◌++◌, append-nil}
 use Prim.Native.Nat.{ℕ, ◌+◌, ◌*◌, ◌-◌, ◌<◌, ◌≤◌}
 use borrow.Rule.Slice.PartMut.{put_mid}
@@ -11,7 +11,6 @@ use lib.Seq.{length-take-le}
 use Rattle.protocol.specs.declared.Settings.{Settings}
 use Rattle.protocol.specs.Basic.{tabulate, flat}
 use Rattle.protocol.specs.Settings.{cells}
-use Rattle.protocol.specs.Layout.{key_cells}
 use Rattle.protocol.specs.Opening.{half_left, fold_key, fold_residues}
 use Rattle.protocol.specs.Rows.{key_row, stacked, fold_keys}
 use Rattle.protocol.specs.Calls.{fold_refusal}

@@ -2,7 +2,7 @@
 use mathlib.Core.Path.{◌≡◌, sym, ap, ◌∙◌}
 use mathlib.Core.Bool.{false}
 use mathlib.Core.List.{List, [], ◌∷◌}
-use Prim.Native.Nat.{ℕ, ◌+◌, ◌*◌, ◌<◌, ◌≤◌}
+use Prim.Native.Nat.{ℕ, ◌+◌, ◌*◌, ◌≤◌}
 use native.Mathlib.Nat.{mul-le-mul}
 use native.Mathlib.Omega.{arith}
 use lib.IntN.{ℤ}
@@ -11,7 +11,7 @@ use lib.Seq.{get_or-take}
 use Rattle.protocol.specs.declared.Settings.{Settings}
 use Rattle.protocol.specs.Basic.{tabulate}
 use Rattle.protocol.specs.Element.{zeros, reduced, signed_at, residue_at}
-use Rattle.protocol.specs.Settings.{settings_refusal, size, cells}
+use Rattle.protocol.specs.Settings.{settings_refusal, cells}
 use Rattle.protocol.specs.Layout.{item_cells, rows_width}
 use Rattle.protocol.specs.Opening.{inner, left, commitment}
 use Rattle.protocol.specs.Rows.{key_row, at_rows, together}

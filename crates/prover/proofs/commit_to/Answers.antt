@@ -1,4 +1,4 @@
-use Rattle.std.proofs.Common.{◌≡◌, refl, sym, ap, ◌∙◌, subst, false, arith, length}
+use Rattle.std.proofs.Common.{◌≡◌, refl, sym, ap, ◌∙◌, subst, false, arith}
 use Rattle.protocol.specs.Settings.{cells}
 use Rattle.protocol.specs.Layout.{item_cells}
 use Rattle.protocol.specs.Opening.{left}
