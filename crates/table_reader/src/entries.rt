@@ -8,7 +8,7 @@ ghost use Rattle.text_parts.specs.Flat.{total};
 ghost use Rattle.table_reader.specs.Cut.{cut_tables, passes, all_pass};
 
 use protocol::{Refusal, Settings};
-use ranges::tests::{all_within_wide, require};
+use ranges::tests::{all_within, require};
 use text_parts::{TABLES, tested_by};
 
 // Is every value, where numbers from 0 on are wanted, below the limit.
@@ -30,7 +30,7 @@ fn pass(settings: Settings, refusal: Refusal, k: usize, values: &[i64]) -> bool
     }
     match refusal {
         Refusal::Residue => all_below(settings.modulus, values),
-        Refusal::Tall => all_within_wide(u64::from(settings.bound), values),
+        Refusal::Tall => all_within(u64::from(settings.bound), values),
         Refusal::Challenge => all_below(u64::from(sizes::exponent_count(settings)), values),
         _ => true,
     }
