@@ -8,7 +8,7 @@ ghost use Rattle.std.specs.Prelude.{◌≡◌, length};
 ghost use Rattle.protocol.specs.Answers.{as_loaded};
 ghost use Rattle.protocol.specs.Basic.{Provided};
 ghost use Rattle.text_format.specs.Promises.{Read};
-ghost use Rattle.text_parts.specs.Parts.{lent_cells};
+ghost use Rattle.text_parts.specs.Parts.{lent_cells, lengths_of};
 ghost use Rattle.text_parts.specs.Lent.{tables_lent, Kept};
 ghost use Rattle.text_lines.specs.Header.{Begins};
 ghost use Rattle.text_values.specs.Parts.{Roomy};
@@ -27,6 +27,7 @@ fn read_by(
 ) -> Result<Settings, Refusal>
     requires { Roomy (length text.now) (length values.old) }
     ensures kept { Kept tables.old tables.new }
+    ensures lengths { lengths_of (tables_lent tables.new) ≡ lengths_of (tables_lent tables.old) }
     ensures read { Provided (Begins text.now settings from) (Read parts text.now (tables_lent tables.old) (as_loaded result) (tables_lent tables.new)) }
 {
     let lengths = tables.lengths();
@@ -55,6 +56,7 @@ pub fn read_tables(
     tables: &mut TablesMut<'_>,
 ) -> Result<Settings, Refusal>
     ensures kept { Kept tables.old tables.new }
+    ensures lengths { lengths_of (tables_lent tables.new) ≡ lengths_of (tables_lent tables.old) }
     ensures read { Provided (Begins text.now settings from) (Read parts text.now (tables_lent tables.old) (as_loaded result) (tables_lent tables.new)) }
 {
     if text.len() <= SHORT {
@@ -68,6 +70,7 @@ pub fn read_tables(
 // The tables of a text. A caller learns their lengths by `text_lines::read_settings`; the table of a part that is not there has length 0.
 pub fn read(parts: Parts, text: &[u8], tables: &mut TablesMut<'_>) -> Result<Settings, Refusal>
     ensures kept { Kept tables.old tables.new }
+    ensures lengths { lengths_of (tables_lent tables.new) ≡ lengths_of (tables_lent tables.old) }
     ensures read { Read parts text.now (tables_lent tables.old) (as_loaded result) (tables_lent tables.new) }
 {
     let begun = text_lines::allowed_settings(text)?;

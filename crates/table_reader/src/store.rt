@@ -65,6 +65,7 @@ fn fill<'a, T: Held>(values: &'a [i64], table: &mut [T]) -> &'a [i64]
 pub fn all(values: &[i64], tables: &mut TablesMut<'_>)
     requires { total (lengths_of (tables_lent tables.old)) ≤ length values.now }
     ensures kept { Kept tables.old tables.new }
+    ensures lengths { lengths_of (tables_lent tables.new) ≡ lengths_of (tables_lent tables.old) }
     ensures stored { tables_lent tables.new ≡ narrow_tables (cut_tables (lengths_of (tables_lent tables.old)) values.now) }
 {
     let after_key = fill(values, tables.key);

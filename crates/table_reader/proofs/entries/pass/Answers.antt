@@ -30,9 +30,10 @@ returns-in-Residue c ok =
     tested _ _ _ _ it _ (c.all_below.ensures ∙ sym (tests-residues _ _ _ (ap number c.in-Residue.is)))
 
 pub returns-in-Tall : goal.returns-in-Tall
+unfolding all_within
 returns-in-Tall c ok =
     let it = tests_it c.args.k c.in-Some.test c.args.refusal c.in-Some.ensures (sym c.ne.ensures ∙ c.if-ne.false) in
-    tested _ _ _ _ it _ (c.all_within_wide.ensures ∙ ap (λ n. all_within n c.args.values.now) c.from.ensures ∙ sym (tests-bound _ _ _ (ap number c.in-Tall.is)))
+    tested _ _ _ _ it _ (c.all_within.ensures ∙ ap (λ n. all_within n c.args.values.now) c.from.ensures ∙ sym (tests-bound _ _ _ (ap number c.in-Tall.is)))
 
 pub returns-in-Challenge : goal.returns-in-Challenge
 unfolding exponents exponent narrow_limit value_limit

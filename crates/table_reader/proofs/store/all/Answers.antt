@@ -1,5 +1,5 @@
 -- Table by table: the place behind each is where the next one begins.
-use Rattle.std.proofs.Common.{◌≡◌, ℕ, ◌+◌, ◌≤◌, List, length, drop, map, take, ℤ, sym, ap, ◌∙◌, arith, length-drop}
+use Rattle.std.proofs.Common.{◌≡◌, ℕ, ◌+◌, ◌≤◌, List, length, drop, map, take, ℤ, sym, ap, ◌∙◌, arith, length-drop, [], ◌∷◌}
 use lib.Seq.{drop-drop}
 use Rattle.text_format.specs.Text.{value_limit, narrow_limit, unsigned}
 use Rattle.text_parts.specs.Parts.{tables_of, lengths_of}
@@ -109,3 +109,17 @@ returns-clause-stored c =
     let last = c.fill-after_last.ensures.stored ∙ ap (λ r. map (narrowed) (take (length t.last) r)) r4 in
     let claims = c.fill.ensures.stored ∙ ap (λ r. map (unsigned value_limit) (take (length t.claims) r)) r5 in
     λ j. tables_of (key j) (message j) (commitment j) (rounds j) (challenges j) (last j) (claims j)
+
+-- every table keeps its length
+pub returns-clause-lengths : goal.returns-clause-lengths
+unfolding lengths_of
+returns-clause-lengths c =
+    λ j.
+        c.fill-after_key.auto.table j
+        ∷ c.fill-after_message.auto.table j
+        ∷ c.fill-after_commitment.auto.table j
+        ∷ c.fill-after_rounds.auto.table j
+        ∷ c.fill-after_challenges.auto.table j
+        ∷ c.fill-after_last.auto.table j
+        ∷ c.fill.auto.table j
+        ∷ []
