@@ -1,15 +1,16 @@
 // The program `prove` as a call on text: its settings, its tables, the whole opening, and the text of the transcript.
 #![tactic(auto)]
 
-ghost use Rattle.std.specs.Prelude.{◌≡◌, [], ◌≤◌, length, take};
+ghost use Rattle.std.specs.Prelude.{◌≡◌, take};
+ghost use Rattle.protocol.specs.Answers.{as_written};
 ghost use Rattle.protocol.specs.Basic.{Provided};
-ghost use Rattle.protocol.specs.Layout.{slots, item_cells, claim_cells};
+ghost use Rattle.protocol.specs.Layout.{item_cells, claim_cells};
 ghost use Rattle.protocol.specs.Rows.{together};
 ghost use Rattle.protocol.specs.WrittenClaims.{claim_table};
 ghost use Rattle.protocol.specs.Settings.{settings_refusal};
 ghost use Rattle.text_format.specs.Programs.{prove_reads, prove_prints, prove_output};
 ghost use Rattle.text_format.specs.Promises.{Proved};
-ghost use Rattle.text_parts.specs.Parts.{tables_of, cells_room};
+ghost use Rattle.text_parts.specs.Lent.{tables_lent};
 ghost use Rattle.claim_tables.specs.Claims.{claimed, Given};
 ghost use Rattle.text_lines.specs.Header.{Begins};
 ghost use Rattle.table_reader.specs.Parts.{Lent};
@@ -22,6 +23,7 @@ use text_lines::Begun;
 use text_parts::{CELLS, Tables, TablesMut};
 
 // The parts that the program reads, and those that it prints.
+#[tactic(auto, unfolding(text_format::specs::Programs::prove_reads))]
 fn reads() -> Parts
     ensures { result ≡ prove_reads }
 {
@@ -36,6 +38,7 @@ fn reads() -> Parts
     }
 }
 
+#[tactic(auto, unfolding(text_format::specs::Programs::prove_prints))]
 fn prints() -> Parts
     ensures { result ≡ prove_prints }
 {
