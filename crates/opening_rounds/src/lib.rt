@@ -16,6 +16,7 @@ ghost use Rattle.round_products.specs.Items.{inner_item};
 ghost use Rattle.opening_rounds.specs.Rounds.{sum_at, half, Halvables, middle_at, last_at, round_item, ItemsBegun, Continuing};
 
 use modular::halves;
+use product_sums::Shape;
 use protocol::{ROWS_WIDTH, Residue, Settings};
 
 // The first d numbers of a table of residues, each halved t times modulo q, written to the front of out where there is room for them.
@@ -57,43 +58,32 @@ pub fn begin(
     if commitments.len() < n {
         return;
     }
-    let q = settings.modulus;
-    let d = settings.degree;
-    let cells = sizes::cells(settings);
     let all = sizes::left(settings, 0);
     let h = all / 2;
-    let half = (h as usize) * (d as usize);
+    let half = (h as usize) * (settings.degree as usize);
     if message.len() < half {
         return;
     }
     if key.len() < half {
         return;
     }
-    products::inner_rows(
-        false,
-        q,
-        d,
-        h,
-        settings.rows,
-        cells,
-        message,
-        key,
-        commitments,
-    );
-    write_halved(q, n, 1, commitments, rounds);
+    let first = Shape {
+        sums: false,
+        modulus: settings.modulus,
+        degree: settings.degree,
+        elements: h,
+        rows: settings.rows,
+        stride: sizes::cells(settings),
+    };
+    products::inner_rows(first, message, key, commitments);
+    write_halved(settings.modulus, n, 1, commitments, rounds);
     let mut second: [Residue; ROWS_WIDTH] = [0; ROWS_WIDTH];
-    products::inner_rows(
-        false,
-        q,
-        d,
-        all - h,
-        settings.rows,
-        cells,
-        &message[half..],
-        &key[half..],
-        &mut second,
-    );
-    add_table(q, n, &second, commitments);
+    let rest = Shape {
+        elements: all - h,
+        ..first
+    };
+    products::inner_rows(rest, &message[half..], &key[half..], &mut second);
+    add_table(settings.modulus, n, &second, commitments);
 }
 
 // half^(t + 1) times the inner product of the first halves in every row, or of the sums of the halves.

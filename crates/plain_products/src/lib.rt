@@ -78,6 +78,7 @@ fn write_rows(q: Residue, d: u32, rows: u32, s: &[Sum], t: &[Sum], out: &mut [Re
     }
 }
 
+// The rooms are arrays of their own: where each begins on the stack decides how quick rows of four strands are.
 // The inner products of all rows, with room for N numbers of an element, for the C of all strands, and for the X that are prepared of them.
 fn inner_with<const N: usize, const C: usize, const X: usize>(
     shape: Shape,
@@ -99,7 +100,7 @@ fn inner_with<const N: usize, const C: usize, const X: usize>(
     write_rows(shape.modulus, shape.degree, shape.rows, &s, &t, out);
 }
 
-// How many numbers a table has.
+// How many numbers a table has; batches, on which nothing here stands, has the same for its own checks.
 fn size(shape: Shape) -> usize
     requires { shape.degree ≤ width }
     ensures { result ≡ size_of shape.sums shape.degree shape.elements }
@@ -143,7 +144,7 @@ pub fn inner_rows(shape: Shape, f: &[i32], g: &[Residue], out: &mut [Residue])
     }
 }
 
-// The same for one row.
+// The same for one row, as products has it over its own rows.
 pub fn inner(q: Residue, d: u32, n: u32, f: &[i32], g: &[Residue]) -> [Residue; WIDTH]
     ensures { Provided (Summable q d n f.now g.now) (result ≡ padded d (reduced q d (opening.inner d n (signed_at d f.now) (residue_at d g.now)))) }
 {

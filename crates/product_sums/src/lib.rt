@@ -18,7 +18,7 @@ pub type Sum = u64;
 pub const FEW: usize = 16;
 
 // What is multiplied: the first elements of a table of whole numbers with those of each row of a key, or, where `sums` holds, the elements of the sums of their halves, which
-// have that many. The rows of the key begin at the distance `stride`.
+// have that many. The rows of the key begin at the distance `stride`. `sums` is a bool as in the definitions and in the calls below, which an enum would have to be turned into.
 #[derive(Clone, Copy)]
 pub struct Shape {
     pub sums: bool,

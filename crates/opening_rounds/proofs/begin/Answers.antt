@@ -59,7 +59,7 @@ returns c = λ z.
     let n = c.left-all.result in
     let is : n ≡ left S 0 = c.left-all.ensures (record { allowed = ok; most = omega arith }) in
     let size = c.item_cells-n.ensures.0 ok in
-    let cells = c.cells-cells.ensures ok in
+    let cells = c.cells.ensures ok in
     let C1 = c.inner_rows.new.out in
     let C2 = c.inner_rows-2.new.out in
     let room : item_cells S ≤ length C = omega (arith, size) in
