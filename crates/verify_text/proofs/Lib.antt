@@ -1,2 +1,3 @@
-pub mod Checks
 pub mod Verifies
+pub mod Checks
+pub mod Said
