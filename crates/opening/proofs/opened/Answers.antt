@@ -9,4 +9,4 @@ returns c = λ passed.
     opening-done _ _ _ _ _ passed _ _ _ _ c.prover_turn-ended.result _ _ _ _ _
     c.begin.ensures c.by_value-commitment.ensures
     c.prover_turn-ended.ensures
-    c.signed_element_at-last.ensures c.verdict-verdict.ensures (search rules)
+    c.element_at-last.ensures c.verdict-verdict.ensures (search rules)

@@ -15,4 +15,4 @@ returns c =
     let a = c.args in
     let z : end_refusal a.settings a.done a.message.now ≡ 0 = sym c.in_ok-end.ensures in
     let (ok, long) = end_given a.settings a.done a.message.now z in
-    end_done a.settings a.done a.message.now z _ (c.signed_element_at.ensures (degree_most a.settings ok))
+    end_done a.settings a.done a.message.now z _ (c.element_at.ensures (degree_most a.settings ok))
