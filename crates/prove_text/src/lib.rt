@@ -1,7 +1,7 @@
 // The program `prove` as a call on text: its settings, its tables, the whole opening, and the text of the transcript.
 #![tactic(auto)]
 
-ghost use Rattle.std.specs.Prelude.{◌≡◌, take};
+ghost use Rattle.std.specs.Prelude.{◌≡◌, [], take};
 ghost use Rattle.protocol.specs.Answers.{as_written};
 ghost use Rattle.protocol.specs.Basic.{Provided};
 ghost use Rattle.protocol.specs.Layout.{item_cells, claim_cells};
@@ -10,7 +10,7 @@ ghost use Rattle.protocol.specs.WrittenClaims.{claim_table};
 ghost use Rattle.protocol.specs.Settings.{settings_refusal};
 ghost use Rattle.text_format.specs.Programs.{prove_reads, prove_prints, prove_output};
 ghost use Rattle.text_format.specs.Promises.{Proved};
-ghost use Rattle.text_parts.specs.Lent.{tables_lent};
+ghost use Rattle.text_parts.specs.Parts.{tables_of};
 ghost use Rattle.claim_tables.specs.Claims.{claimed, Given};
 ghost use Rattle.text_lines.specs.Header.{Begins};
 ghost use Rattle.table_reader.specs.Parts.{Lent};
@@ -117,23 +117,43 @@ fn print_opening(
 fn prove_in(
     text: &[u8],
     begun: Begun,
-    tables: &mut TablesMut<'_>,
+    key: &mut [Residue],
+    message: &mut [i32],
+    challenges: &mut [u32],
     rounds: &mut [Residue],
     out: &mut [u8],
 ) -> Result<usize, Refusal>
-    requires lent { Lent prove_reads text.now (tables_lent tables.old) }
+    requires lent { Lent prove_reads text.now (tables_of key.old message.old [] [] challenges.old [] []) }
     requires rounds_lent { RoundsLent text.now rounds.old × Begins text.now begun.settings begun.next }
     ensures { Proved text.now out.old (as_written result) out.new }
 {
-    let settings = table_reader::read_tables(reads(), begun.settings, begun.next, text, tables)?;
-    print_opening(
-        settings,
-        tables.key,
-        tables.message,
-        tables.challenges,
-        rounds,
-        out,
-    )
+    let mut no_commitment = [0u64; 1];
+    let mut no_rounds = [0u64; 1];
+    let mut no_last = [0i32; 1];
+    let mut no_claims = [0u64; 1];
+    let mut tables = TablesMut {
+        key,
+        message,
+        commitment: &mut no_commitment[..0],
+        rounds: &mut no_rounds[..0],
+        challenges,
+        last: &mut no_last[..0],
+        claims: &mut no_claims[..0],
+    };
+    let settings = table_reader::read_tables(
+        reads(),
+        begun.settings,
+        begun.next,
+        text,
+        &mut tables,
+    )?;
+    let TablesMut {
+        key,
+        message,
+        challenges,
+        ..
+    } = tables;
+    print_opening(settings, key, message, challenges, rounds, out)
 }
 
 // The call. The tables have room for every text; their first numbers, as many as the settings ask for, are lent.
@@ -148,22 +168,17 @@ pub fn prove(text: &[u8], out: &mut [u8]) -> Result<usize, Refusal>
     let round_cells = table_reader::lent_cells(sizes::round_cells(settings));
     let mut key = [0u64; CELLS];
     let mut message = [0i32; CELLS];
-    let mut no_commitment = [0u64; 1];
-    let mut no_rounds = [0u64; 1];
     let mut challenges = [0u32; SLOTS];
-    let mut no_last = [0i32; 1];
-    let mut no_claims = [0u64; 1];
     let mut rounds = [0u64; CELLS];
-    let mut tables = TablesMut {
-        key: &mut key[..key_cells],
-        message: &mut message[..cells],
-        commitment: &mut no_commitment[..0],
-        rounds: &mut no_rounds[..0],
-        challenges: &mut challenges[..depth],
-        last: &mut no_last[..0],
-        claims: &mut no_claims[..0],
-    };
-    prove_in(text, begun, &mut tables, &mut rounds[..round_cells], out)
+    prove_in(
+        text,
+        begun,
+        &mut key[..key_cells],
+        &mut message[..cells],
+        &mut challenges[..depth],
+        &mut rounds[..round_cells],
+        out,
+    )
 }
 
 // What the program prints, at the front of a slice that has room for it.
