@@ -19,6 +19,7 @@ ghost use Rattle.exports.specs.Promises.{CommitStored, RoundStored, EndStored, O
 
 use protocol::{Refusal, Settings, Verdict};
 use ranges::tests;
+use text_parts::{Tables, TablesMut};
 
 // The settings of a call.
 fn given(degree: u32, depth: u32, modulus: u64, bound: u32, rows: u32) -> Settings
@@ -379,9 +380,16 @@ pub extern "C" fn wovenrock_read(
         (tables_of key.old message.old commitment.old rounds.old challenges.old last.old claims.old) result
         settings.new (tables_of key.new message.new commitment.new rounds.new challenges.new last.new claims.new) }
 {
-    number(text_calls::read(
-        parts, text, settings, key, message, commitment, rounds, challenges, last, claims,
-    ))
+    let mut tables = TablesMut {
+        key,
+        message,
+        commitment,
+        rounds,
+        challenges,
+        last,
+        claims,
+    };
+    number(text_calls::read(parts, text, settings, &mut tables))
 }
 
 // The table writer.
@@ -408,10 +416,16 @@ pub extern "C" fn wovenrock_write(
         out.old result out.new count.new }
 {
     let s = given(degree, depth, modulus, bound, rows);
-    let written = text_calls::write(
-        s, parts, key, message, commitment, rounds, challenges, last, claims, out,
-    );
-    counted(written, count)
+    let tables = Tables {
+        key,
+        message,
+        commitment,
+        rounds,
+        challenges,
+        last,
+        claims,
+    };
+    counted(text_calls::write(s, parts, &tables, out), count)
 }
 
 // The program `verify` as a call on text.

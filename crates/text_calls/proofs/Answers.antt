@@ -9,8 +9,11 @@ use borrow.Author.Tests.{eq-eqb, ne_eqb}
 use lib.ListN.{length}
 use Rattle.protocol.specs.declared.Settings.{Settings}
 use Rattle.protocol.specs.declared.Parts.{Parts}
-use Rattle.protocol.specs.Answers.{Loaded}
-use Rattle.protocol.specs.Answers.{Written}
+use Rattle.std.specs.Prelude.{Result, Ok, Err}
+use Rattle.protocol.specs.declared.Refusal.{Refusal}
+use Rattle.protocol.specs.declared.Verdict.{Verdict}
+use Rattle.protocol.specs.Refusal.{refusal_of}
+use Rattle.protocol.specs.Answers.{Loaded, Written, as_checked, as_written}
 use Rattle.protocol.specs.Basic.{first, unless, granted}
 use Rattle.protocol.specs.Settings.{has_length}
 use Rattle.text_format.specs.Text.{Tables, wanted, fits, lines_of, spots_of, same_spots, entries_refusal, settings_in, tables_in, loaded, look_refusal}
@@ -22,6 +25,15 @@ use Rattle.slices.specs.Slices.{lent}
 use Rattle.slices.proofs.Lent.{lent_stops, lent_passes}
 use Rattle.text_calls.specs.Texts.{parts_of, parts_named, settings_width, settings_numbers}
 use Rattle.text_calls.specs.Promises.{look_number, Looked, read_number, ReadStored, write_number, WroteStored}
+
+-- the number of an answer
+pub written-number : (r : Result ℕ Refusal) → (as_written r).refusal ≡ refusal_of r
+written-number (Ok n) = refl
+written-number (Err e) = refl
+
+pub checked-number : (r : Result Verdict Refusal) → (as_checked r).refusal ≡ refusal_of r
+checked-number (Ok v) = refl
+checked-number (Err e) = refl
 
 -- ---- a first look
 

@@ -25,7 +25,8 @@ use text_parts::{Tables, TablesMut};
 // One past the largest number that names parts, with a bit for each: `parts_count` of the definitions.
 const PARTS: u32 = 128;
 
-// The parts that a number names.
+// The parts that a number names. A bit for each is what the functions for C take.
+#[tactic(auto, unfolding(crate::specs::Texts::parts_of))]
 fn parts_of(bits: u32) -> Parts
     ensures { result ≡ parts_of bits }
 {
@@ -44,9 +45,9 @@ fn parts_of(bits: u32) -> Parts
 pub fn look(text: &[u8], settings: &mut [u64]) -> Result<(), Refusal>
     ensures { Looked text.now settings.old (refusal_of result) settings.new }
 {
-    let found = text_lines::read_settings(text)?;
+    let looked = text_lines::read_settings(text)?;
     require(settings.len() == SETTINGS, Refusal::Size)?;
-    settings::store(found, settings);
+    settings::store(looked, settings);
     Ok(())
 }
 

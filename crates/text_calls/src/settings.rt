@@ -8,13 +8,16 @@ use protocol::Settings;
 pub const SETTINGS: usize = 5;
 
 // Writes them to a slice.
+#[tactic(auto, unfolding(crate::specs::Texts::settings_numbers))]
 pub fn store(s: Settings, out: &mut [u64])
     requires { length out.old ≡ settings_width }
     ensures { out.new ≡ settings_numbers s }
 {
-    out[0] = u64::from(s.degree);
-    out[1] = u64::from(s.depth);
-    out[2] = s.modulus;
-    out[3] = u64::from(s.bound);
-    out[4] = u64::from(s.rows);
+    out.copy_from_slice(&[
+        u64::from(s.degree),
+        u64::from(s.depth),
+        s.modulus,
+        u64::from(s.bound),
+        u64::from(s.rows),
+    ]);
 }
