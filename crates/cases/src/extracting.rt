@@ -1,7 +1,6 @@
 // The judge of relaxed openings and the extractor. Each function reads a case's inputs, makes its call and prints what it gives.
 use crate::input::Input;
-use crate::output;
-use crate::{ROOM, VECTOR_ROOM};
+use crate::{ROOM, VECTOR_ROOM, output};
 
 pub fn judge(rt: &impl Print, input: &mut Input) {
     let settings = input.settings();

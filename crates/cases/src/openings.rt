@@ -1,7 +1,6 @@
 // The prover's calls. Each function reads a case's inputs, makes its call and prints what it gives.
-use crate::ROOM;
 use crate::input::Input;
-use crate::output;
+use crate::{ROOM, output};
 use protocol::{Outcome, ROWS_WIDTH, Refusal, WIDTH};
 
 pub fn commit(rt: &impl Print, input: &mut Input) {

@@ -46,7 +46,10 @@ pub fn text(rt: &impl Print, t: &[u8]) {
 
 // An element by value: how many places there are up to the last one that is not 0, and those places.
 fn places<T: Copy + PartialEq + Display>(rt: &impl Print, zero: T, a: &[T]) {
-    let count = a.iter().rposition(|x| *x != zero).map_or(0, |last| last + 1);
+    let count = a
+        .iter()
+        .rposition(|x| *x != zero)
+        .map_or(0, |last| last + 1);
     table(rt, &a[..count]);
 }
 

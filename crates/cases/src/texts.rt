@@ -1,7 +1,6 @@
 // The calls on texts: the table reader, the table writer, and `verify`. Each function reads a case's inputs, makes its call and prints what it gives.
 use crate::input::Input;
-use crate::output;
-use crate::{ROOM, TEXT_ROOM};
+use crate::{ROOM, TEXT_ROOM, output};
 use protocol::Settings;
 
 // The reader's answer where the text is refused.

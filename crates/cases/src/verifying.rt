@@ -1,7 +1,6 @@
 // The verifier's calls. Each function reads a case's inputs, makes its call and prints what it gives.
-use crate::ROOM;
 use crate::input::Input;
-use crate::output;
+use crate::{ROOM, output};
 use protocol::{Handed, ROWS_WIDTH, Session, Settings, Verdict};
 use verifier::Verifier;
 

@@ -201,8 +201,7 @@ pub extern "C" fn wovenrock_open(
 {
     *verdict = 0;
     let s = given(degree, depth, modulus, bound, rows);
-    let fits = (commitment.len() == sizes::item_cells(s))
-        & (last.len() == degree as usize);
+    let fits = (commitment.len() == sizes::item_cells(s)) & (last.len() == degree as usize);
     if let Err(refusal) = slices::refusal(s, fits) {
         return refusal.number();
     }
@@ -282,8 +281,7 @@ pub extern "C" fn wovenrock_check(
 {
     let s = given(degree, depth, modulus, bound, rows);
     *verdict = 0;
-    let fits = (commitment.len() == sizes::item_cells(s))
-        & (last.len() == degree as usize);
+    let fits = (commitment.len() == sizes::item_cells(s)) & (last.len() == degree as usize);
     if let Err(refusal) = slices::refusal(s, fits) {
         return refusal.number();
     }
@@ -349,9 +347,7 @@ pub extern "C" fn wovenrock_extract(
         return refusal.number();
     }
     let c = slices::residues(s, commitment);
-    number(extraction::extract(
-        s, c, key, rounds, challenges, leaves, w,
-    ))
+    number(extraction::extract(s, c, key, rounds, challenges, leaves, w))
 }
 
 // A first look at a text's settings.

@@ -115,11 +115,11 @@ pub returns-clause-lengths : goal.returns-clause-lengths
 unfolding lengths_of
 returns-clause-lengths c =
     λ j.
-        c.fill-after_key.auto.table j
-        ∷ c.fill-after_message.auto.table j
-        ∷ c.fill-after_commitment.auto.table j
-        ∷ c.fill-after_rounds.auto.table j
-        ∷ c.fill-after_challenges.auto.table j
-        ∷ c.fill-after_last.auto.table j
-        ∷ c.fill.auto.table j
-        ∷ []
+    c.fill-after_key.auto.table j
+    ∷ c.fill-after_message.auto.table j
+    ∷ c.fill-after_commitment.auto.table j
+    ∷ c.fill-after_rounds.auto.table j
+    ∷ c.fill-after_challenges.auto.table j
+    ∷ c.fill-after_last.auto.table j
+    ∷ c.fill.auto.table j
+    ∷ []
