@@ -21,19 +21,6 @@ use protocol::{Refusal, Settings, Verdict};
 use ranges::tests;
 use text_parts::{Tables, TablesMut};
 
-// The settings of a call.
-fn given(degree: u32, depth: u32, modulus: u64, bound: u32, rows: u32) -> Settings
-    ensures { result ≡ given degree depth modulus bound rows }
-{
-    Settings {
-        degree,
-        depth,
-        modulus,
-        bound,
-        rows,
-    }
-}
-
 // The number of a call's refusal; 0 where nothing is refused.
 fn number(answer: Result<(), Refusal>) -> u32
     ensures { result ≡ refusal_of answer }
@@ -45,6 +32,7 @@ fn number(answer: Result<(), Refusal>) -> u32
 }
 
 // The same of a call that says something: what it says goes to `verdict` as a number, 0 where it is refused.
+#[tactic(auto, unfolding(protocol::specs::Session::verdict_number))]
 fn told(answer: Result<Verdict, Refusal>, verdict: &mut u32) -> u32
     ensures { (result ≡ refusal_of answer) × (verdict.new ≡ verdict_number (as_verdict answer)) }
 {
@@ -82,7 +70,14 @@ pub extern "C" fn wovenrock_settings(
 ) -> u32
     ensures { result ≡ settings_refusal (given degree depth modulus bound rows) }
 {
-    number(tests::allow(given(degree, depth, modulus, bound, rows)))
+    let s = Settings {
+        degree,
+        depth,
+        modulus,
+        bound,
+        rows,
+    };
+    number(tests::allow(s))
 }
 
 // Commit: the commitment goes to the slice `commitment`.
@@ -99,7 +94,13 @@ pub extern "C" fn wovenrock_commit(
 ) -> u32
     ensures { CommitStored (given degree depth modulus bound rows) key.now message.now commitment.old result commitment.new }
 {
-    let s = given(degree, depth, modulus, bound, rows);
+    let s = Settings {
+        degree,
+        depth,
+        modulus,
+        bound,
+        rows,
+    };
     if let Err(refusal) = slices::refusal(s, commitment.len() == sizes::item_cells(s)) {
         return refusal.number();
     }
@@ -121,7 +122,13 @@ pub extern "C" fn wovenrock_round(
 ) -> u32
     ensures { RoundStored (given degree depth modulus bound rows) done key.now message.now polynomial.old result polynomial.new }
 {
-    let s = given(degree, depth, modulus, bound, rows);
+    let s = Settings {
+        degree,
+        depth,
+        modulus,
+        bound,
+        rows,
+    };
     if let Err(refusal) = slices::refusal(s, polynomial.len() == 3 * sizes::item_cells(s)) {
         return refusal.number();
     }
@@ -149,7 +156,13 @@ pub extern "C" fn wovenrock_fold(
 ) -> u32
     ensures { Folded (given degree depth modulus bound rows) done exponent key.old message.old result key.new message.new }
 {
-    let s = given(degree, depth, modulus, bound, rows);
+    let s = Settings {
+        degree,
+        depth,
+        modulus,
+        bound,
+        rows,
+    };
     number(prover::fold(s, done, exponent, key, message))
 }
 
@@ -167,7 +180,13 @@ pub extern "C" fn wovenrock_end(
 ) -> u32
     ensures { EndStored (given degree depth modulus bound rows) done message.now last.old result last.new }
 {
-    let s = given(degree, depth, modulus, bound, rows);
+    let s = Settings {
+        degree,
+        depth,
+        modulus,
+        bound,
+        rows,
+    };
     if let Err(refusal) = slices::refusal(s, last.len() == degree as usize) {
         return refusal.number();
     }
@@ -200,7 +219,13 @@ pub extern "C" fn wovenrock_open(
         commitment.old last.old result key.new message.new rounds.new commitment.new last.new verdict.new }
 {
     *verdict = 0;
-    let s = given(degree, depth, modulus, bound, rows);
+    let s = Settings {
+        degree,
+        depth,
+        modulus,
+        bound,
+        rows,
+    };
     let fits = (commitment.len() == sizes::item_cells(s)) & (last.len() == degree as usize);
     if let Err(refusal) = slices::refusal(s, fits) {
         return refusal.number();
@@ -229,7 +254,13 @@ pub extern "C" fn wovenrock_session_start(
 ) -> u32
     ensures { StartStored (given degree depth modulus bound rows) commitment.now session.old result session.new }
 {
-    let s = given(degree, depth, modulus, bound, rows);
+    let s = Settings {
+        degree,
+        depth,
+        modulus,
+        bound,
+        rows,
+    };
     number(sessions::start(s, commitment, session))
 }
 
@@ -279,7 +310,13 @@ pub extern "C" fn wovenrock_check(
     ensures { CheckStored (given degree depth modulus bound rows) commitment.now last.now key.now rounds.now
         challenges.now result verdict.new }
 {
-    let s = given(degree, depth, modulus, bound, rows);
+    let s = Settings {
+        degree,
+        depth,
+        modulus,
+        bound,
+        rows,
+    };
     *verdict = 0;
     let fits = (commitment.len() == sizes::item_cells(s)) & (last.len() == degree as usize);
     if let Err(refusal) = slices::refusal(s, fits) {
@@ -309,7 +346,13 @@ pub extern "C" fn wovenrock_judge(
 ) -> u32
     ensures { JudgeStored (given degree depth modulus bound rows) commitment.now slack key.now w.now result yes.new }
 {
-    let s = given(degree, depth, modulus, bound, rows);
+    let s = Settings {
+        degree,
+        depth,
+        modulus,
+        bound,
+        rows,
+    };
     *yes = 0;
     if let Err(refusal) = slices::refusal(s, commitment.len() == sizes::item_cells(s)) {
         return refusal.number();
@@ -342,7 +385,13 @@ pub extern "C" fn wovenrock_extract(
     ensures { ExtractStored (given degree depth modulus bound rows) commitment.now key.now rounds.now challenges.now
         leaves.now w.old result w.new }
 {
-    let s = given(degree, depth, modulus, bound, rows);
+    let s = Settings {
+        degree,
+        depth,
+        modulus,
+        bound,
+        rows,
+    };
     if let Err(refusal) = slices::refusal(s, commitment.len() == sizes::item_cells(s)) {
         return refusal.number();
     }
@@ -411,7 +460,13 @@ pub extern "C" fn wovenrock_write(
         (tables_of key.now message.now commitment.now rounds.now challenges.now last.now claims.now)
         out.old result out.new count.new }
 {
-    let s = given(degree, depth, modulus, bound, rows);
+    let s = Settings {
+        degree,
+        depth,
+        modulus,
+        bound,
+        rows,
+    };
     let tables = Tables {
         key,
         message,
