@@ -2,6 +2,7 @@
 use crate::input::Input;
 use crate::{ROOM, TEXT_ROOM, output};
 use protocol::Settings;
+use text_parts::{Tables, TablesMut};
 
 // The reader's answer where the text is refused.
 const NO_SETTINGS: Settings = Settings {
@@ -30,18 +31,25 @@ pub fn read(rt: &impl Print, input: &mut Input) {
     let last = input.table(&mut last_room);
     let mut claim_room = [0u64; ROOM];
     let claims = input.table(&mut claim_room);
-    let answer = table_reader::read(
-        parts, text, key, message, commitment, rounds, challenges, last, claims,
-    );
+    let mut tables = TablesMut {
+        key,
+        message,
+        commitment,
+        rounds,
+        challenges,
+        last,
+        claims,
+    };
+    let answer = table_reader::read(parts, text, &mut tables);
     output::refusal(rt, answer);
     output::settings(rt, answer.unwrap_or(NO_SETTINGS));
-    output::table(rt, key);
-    output::table(rt, message);
-    output::table(rt, commitment);
-    output::table(rt, rounds);
-    output::table(rt, challenges);
-    output::table(rt, last);
-    output::table(rt, claims);
+    output::table(rt, tables.key);
+    output::table(rt, tables.message);
+    output::table(rt, tables.commitment);
+    output::table(rt, tables.rounds);
+    output::table(rt, tables.challenges);
+    output::table(rt, tables.last);
+    output::table(rt, tables.claims);
     output::end(rt);
 }
 
@@ -64,9 +72,16 @@ pub fn write(rt: &impl Print, input: &mut Input) {
     let last = input.table(&mut last_room);
     let mut claim_room = [0u64; ROOM];
     let claims = input.table(&mut claim_room);
-    let answer = table_writer::write(
-        settings, parts, key, message, commitment, rounds, challenges, last, claims, out,
-    );
+    let tables = Tables {
+        key,
+        message,
+        commitment,
+        rounds,
+        challenges,
+        last,
+        claims,
+    };
+    let answer = table_writer::write(settings, parts, &tables, out);
     output::refusal(rt, answer);
     output::number(rt, answer.unwrap_or(0));
     output::text(rt, out);

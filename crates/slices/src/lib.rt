@@ -121,16 +121,3 @@ pub fn verdict_number(v: Verdict) -> u32
         Verdict::Rejected => 3,
     }
 }
-
-// ---- to go once nothing calls them
-pub fn both(first: bool, second: bool) -> bool
-    ensures { result ≡ (first && second) }
-{
-    first && second
-}
-
-pub fn wide(x: u32) -> u64
-    ensures { result ≡ x }
-{
-    u64::from(x)
-}

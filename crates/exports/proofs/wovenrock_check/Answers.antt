@@ -1,6 +1,5 @@
-use Rattle.std.proofs.Common.{◌≡◌, ◌≤◌, ◌*◌, ◌&&◌, Ok, Err, ℕ, refl, sym, ap, subst, ◌∙◌, take, arith}
+use Rattle.std.proofs.Common.{◌&&◌, refl, sym, ap, ◌∙◌}
 use borrow.Author.Tests.{eqb-true}
-use Rattle.protocol.specs.Basic.{choose}
 use Rattle.protocol.specs.Settings.{has_length}
 use Rattle.protocol.proofs.Tests.{and_split}
 use Rattle.ranges.proofs.Numbers.{number_some}

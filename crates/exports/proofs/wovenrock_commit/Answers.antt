@@ -1,17 +1,14 @@
-use Rattle.std.proofs.Common.{◌≡◌, ◌≤◌, ◌*◌, ◌&&◌, Ok, Err, ℕ, refl, sym, ap, subst, ◌∙◌, take, arith}
+use Rattle.std.proofs.Common.{refl, sym, ◌∙◌}
 use borrow.Author.Tests.{eqb-true}
-use Rattle.protocol.specs.Basic.{choose}
 use Rattle.protocol.specs.Settings.{has_length}
-use Rattle.protocol.proofs.Tests.{and_split}
 use Rattle.ranges.proofs.Numbers.{number_some}
-use Rattle.slices.proofs.Lent.{lent_passes, lent_fits, lent_allowed, lent_degree}
+use Rattle.slices.proofs.Lent.{lent_fits, lent_allowed}
 use Rattle.protocol.specs.Layout.{item_cells}
 use Rattle.protocol.specs.Rows.{together}
-use Rattle.protocol.specs.Refusal.{number, refusal_of}
+use Rattle.protocol.specs.Refusal.{refusal_of}
 use Rattle.protocol.specs.Calls.{commit_answer}
 use Rattle.slices.specs.Slices.{given}
 use Rattle.exports.specs.Border.{commit_number, commit_exit}
-use Rattle.exports.specs.Promises.{CommitStored}
 use Rattle.exports.proofs.Answers.{counted, unfit, refused, made}
 use Rattle.prover.proofs.Values.{commit-stored}
 use native.Mathlib.Decide.{ℕ_discrete}

@@ -1,10 +1,8 @@
-use Rattle.std.proofs.Common.{◌≡◌, ◌≤◌, ◌*◌, ◌&&◌, Ok, Err, ℕ, refl, sym, ap, subst, ◌∙◌, take, arith}
+use Rattle.std.proofs.Common.{◌*◌, refl, sym, ap, ◌∙◌}
 use borrow.Author.Tests.{eqb-true}
-use Rattle.protocol.specs.Basic.{choose}
 use Rattle.protocol.specs.Settings.{has_length}
-use Rattle.protocol.proofs.Tests.{and_split}
 use Rattle.ranges.proofs.Numbers.{number_some}
-use Rattle.slices.proofs.Lent.{lent_passes, lent_fits, lent_allowed, lent_degree}
+use Rattle.slices.proofs.Lent.{lent_fits, lent_allowed}
 use Rattle.protocol.specs.Answers.{Polynomial}
 use Rattle.protocol.specs.Layout.{polynomial_cells}
 use Rattle.protocol.specs.Calls.{round_answer}

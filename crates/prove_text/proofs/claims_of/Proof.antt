@@ -1,9 +1,8 @@
 -- `claims_of`: the claims stand at the front.
-use mathlib.Core.Path.{◌≡◌, sym, ap, ◌∙◌}
+use mathlib.Core.Path.{sym, ◌∙◌}
 use Prim.Native.Nat.{◌≤◌}
 use native.Mathlib.Omega.{arith}
 use borrow.Author.Rules.{rules}
-use lib.ListN.{take}
 use lib.Seq.{length-take-le, take_at}
 use Rattle.claim_tables.specs.Claims.{claims_room}
 use Rattle.claim_tables.proofs.Claiming.{claims-few}

@@ -1,5 +1,5 @@
 -- `flat`: the rows stand at the front.
-use mathlib.Core.Path.{◌≡◌, sym, ◌∙◌}
+use mathlib.Core.Path.{sym, ◌∙◌}
 use Prim.Native.Nat.{◌≤◌}
 use borrow.Author.Rules.{rules}
 use lib.Seq.{length-take-le, take_at}

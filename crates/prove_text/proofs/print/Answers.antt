@@ -1,8 +1,6 @@
 -- The listing is made in a place of its own with room for the longest text.
-use Rattle.std.proofs.Common.{Ok, Err, ◌≡◌, ◌≤◌, length, sym, ap, subst, refl, ◌∙◌, arith, length-take-le}
+use Rattle.std.proofs.Common.{Ok, Err, sym, refl, arith, length-take-le}
 use Rattle.protocol.specs.Answers.{as_written}
-use Rattle.protocol.specs.Refusal.{number}
-use Rattle.text_format.specs.Promises.{Proved}
 use Rattle.text_format.specs.Text.{text_limit}
 use Rattle.table_writer.proofs.Required.{positive}
 use Rattle.table_writer.proofs.Shows.{shown_as, shown-told}

@@ -1,6 +1,5 @@
 -- Nothing of the opening is refused, and of what it gives the writer refuses nothing but the length of the text.
-use Rattle.std.proofs.Common.{◌≡◌, ◌≤◌, ℕ, List, [], length, take, sym, ap, subst, ◌∙◌, arith, length-take-le}
-use Rattle.protocol.specs.Layout.{rows_width}
+use Rattle.std.proofs.Common.{◌≡◌, [], length, take, sym, ap, subst, ◌∙◌, arith, length-take-le}
 use Rattle.protocol.specs.Opening.{commitment}
 use Rattle.protocol.specs.Rows.{key_row, at_rows, round_tables, transcripts_of}
 use Rattle.protocol.specs.WrittenClaims.{claim_table}

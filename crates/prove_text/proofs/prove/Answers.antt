@@ -1,5 +1,5 @@
 -- The settings, and then tables of exactly the lengths that the settings ask for.
-use Rattle.std.proofs.Common.{true, Ok, Err, [], ◌≡◌, ◌≤◌, sym, ap, subst, ◌∙◌, arith, take}
+use Rattle.std.proofs.Common.{true, Ok, Err, ◌≡◌, ◌≤◌, sym, ap, subst, ◌∙◌, arith}
 use Rattle.std.proofs.lemmas.Result.{err_from_is_err_and}
 use lib.Seq.{length-take-le}
 use Rattle.protocol.specs.declared.Settings.{Settings}
@@ -8,7 +8,7 @@ use Rattle.protocol.specs.Refusal.{number}
 use Rattle.protocol.specs.Settings.{settings_refusal, cells}
 use Rattle.text_format.specs.Text.{Tables, fits, lines_of, settings_in}
 use Rattle.text_format.specs.Programs.{prove_reads}
-use Rattle.text_parts.specs.Parts.{tables_of, cells_room, lent_cells}
+use Rattle.text_parts.specs.Parts.{cells_room, lent_cells}
 use Rattle.table_reader.proofs.OnText.{look-refusal}
 use Rattle.table_reader.proofs.Rooms.{rooms}
 use Rattle.table_writer.proofs.Required.{positive}

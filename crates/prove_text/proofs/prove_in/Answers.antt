@@ -1,5 +1,5 @@
 -- The reader, and then the opening and its text.
-use Rattle.std.proofs.Common.{Ok, Err, ◌≡◌, [], refl, subst, ap, sym, ◌∙◌, List, ℕ, arith}
+use Rattle.std.proofs.Common.{Ok, Err, ◌≡◌, [], refl, subst, ap, sym, ◌∙◌, arith}
 use Rattle.std.proofs.lemmas.Result.{err_from_is_err_and}
 use Rattle.protocol.specs.Answers.{as_loaded, as_written}
 use Rattle.protocol.specs.Layout.{round_cells}

@@ -1,5 +1,5 @@
 -- Refused by the text, by the slice for the settings, or not at all.
-use Rattle.std.proofs.Common.{◌≡◌, refl, sym, subst, arith}
+use Rattle.std.proofs.Common.{refl, sym, subst, arith}
 use Rattle.std.proofs.lemmas.Result.{err_from_is_err_and}
 use borrow.Author.Tests.{eqb-true, eqb-false}
 use Rattle.protocol.proofs.Tests.{unless-zero}

@@ -1,5 +1,5 @@
 -- Refused by the slice for the settings or the number of parts, by the text, or not at all.
-use Rattle.std.proofs.Common.{Ok, Err, ◌≡◌, true, false, ◌&&◌, refl, sym, arith}
+use Rattle.std.proofs.Common.{Ok, Err, refl, arith}
 use Rattle.std.proofs.lemmas.Result.{err_from_is_err_and}
 use borrow.Author.Tests.{eqb-true}
 use Rattle.protocol.specs.Answers.{as_loaded}
@@ -7,7 +7,7 @@ use Rattle.protocol.specs.Settings.{has_length}
 use Rattle.protocol.proofs.Tests.{and_split}
 use Rattle.table_writer.proofs.Required.{positive}
 use Rattle.text_parts.specs.Lent.{tables_lent}
-use Rattle.text_calls.specs.Texts.{parts_named, settings_width}
+use Rattle.text_calls.specs.Texts.{parts_named}
 use Rattle.text_calls.proofs.Answers.{read_unfit, read-refused, read_made}
 use Rattle.text_calls.proofs.read.Goals as goal
 

@@ -1,5 +1,5 @@
 -- A first look's refusal, and else 7.
-use Rattle.std.proofs.Common.{◌≡◌, refl, sym, ap, ◌∙◌, arith}
+use Rattle.std.proofs.Common.{sym, ◌∙◌, arith}
 use Rattle.protocol.proofs.Refusals.{first_stops, first_passes, first_only}
 use Rattle.table_writer.proofs.Required.{positive}
 use Rattle.text_calls.proofs.Answers.{look-number}

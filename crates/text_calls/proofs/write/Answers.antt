@@ -1,5 +1,5 @@
 -- Refused by the settings or the number of parts, or the table writer.
-use Rattle.std.proofs.Common.{◌≡◌, refl, sym, subst, arith}
+use Rattle.std.proofs.Common.{refl, subst, arith}
 use Rattle.std.proofs.lemmas.Result.{err_from_is_err_and}
 use Rattle.text_parts.specs.Lent.{tables_read}
 use Rattle.table_writer.proofs.Required.{positive}

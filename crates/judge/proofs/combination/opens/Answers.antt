@@ -1,7 +1,6 @@
-use Rattle.std.proofs.Common.{◌≡◌, ◌≤◌, ◌<◌, ◌*◌, ◌%◌, subst, true, get_or, sym, ap, ◌∙◌, arith, length-take-le, get_or-take}
+use Rattle.std.proofs.Common.{◌<◌, ◌*◌, ◌%◌, subst, get_or, sym, ap, ◌∙◌, arith, length-take-le, get_or-take}
 use lib.Dec.{eqb}
 use borrow.Author.Tests.{not-true, not-false}
-use Rattle.protocol.specs.Element.{width}
 use Rattle.protocol.proofs.Inputs.{settings-valid}
 use Rattle.ranges.proofs.Scan.{every-none, every_goes_on, every_fails, every_ends}
 use Rattle.sizes.proofs.Limits.{degree_most}

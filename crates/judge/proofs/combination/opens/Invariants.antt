@@ -1,5 +1,5 @@
 -- The first k places agree.
-use Rattle.std.proofs.Common.{◌≡◌, ℕ, true}
+use Rattle.std.proofs.Common.{◌≡◌, true}
 use Rattle.protocol.specs.Basic.{every}
 use Rattle.judge.proofs.Same.{same}
 use Rattle.judge.proofs.combination.opens.Given as goal

@@ -1,4 +1,4 @@
-use Rattle.std.proofs.Common.{◌≡◌, ◌*◌, ◌/◌, ◌%◌, ◌^◌, get_or, pos, ap, ◌∙◌, arith, rules, w32, w64}
+use Rattle.std.proofs.Common.{◌≡◌, ◌/◌, ◌%◌, ◌^◌, get_or, pos, ap, ◌∙◌, arith, rules, w32, w64}
 use Rattle.protocol.specs.Element.{modulo}
 use Rattle.ranges.proofs.Magnitude.{through-bits}
 use Rattle.residues.proofs.Fill.{filled_none, filled-turn, filled-end}

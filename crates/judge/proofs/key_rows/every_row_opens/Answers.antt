@@ -1,4 +1,4 @@
-use Rattle.std.proofs.Common.{◌≡◌, ◌<◌, ℕ, Bool, true, false, refl, rules}
+use Rattle.std.proofs.Common.{◌≡◌, ℕ, Bool, true, false, refl, rules}
 use Rattle.std.proofs.lemmas.Iterator.{cases_from_all}
 use borrow.Author.Tests.{tests}
 use Rattle.protocol.specs.Element.{value_row}

@@ -2,7 +2,7 @@ use mathlib.Core.Path.{sym, ◌∙◌, subst}
 use Prim.Native.Nat.{◌*◌, ◌<◌}
 use native.Mathlib.Omega.{arith}
 use borrow.Author.Rules.{rules}
-use lib.ListN.{length, get_or}
+use lib.ListN.{length}
 use Rattle.protocol.specs.Element.{width}
 use Rattle.protocol.specs.Inputs.{Below}
 use Rattle.protocol.specs.Judge.{opens}

@@ -1,4 +1,4 @@
-use Rattle.std.proofs.Common.{◌≡◌, ◌<◌, ◌+◌, ◌*◌, ◌%◌, ◌∙◌, sym, ap, subst, get_or, arith, length-take-le}
+use Rattle.std.proofs.Common.{◌<◌, ◌+◌, ◌*◌, ◌%◌, ◌∙◌, sym, ap, subst, get_or, arith, length-take-le}
 use Rattle.residues.proofs.Fill.{filled_none}
 use Rattle.residues.proofs.Fronts.{front-was, front-turn, front-done}
 use Rattle.judge.proofs.scaling.add_scaled.Goals as goal
