@@ -164,7 +164,7 @@ use mathlib.Core.Bool.{true, false}
 use mathlib.Core.List.{List, [], ◌∷◌}
 use Prim.Native.String.{◌++◌}
 use lib.IntN.{pos, negsuc}
-use Rattle.protocol.specs.declared.Verdict.TheVariants.{Silent, Holds, Accepted, Rejected}
+use Rattle.protocol.specs.Answers.Verdict.{Silent, Holds, Accepted, Rejected}
 use Rattle.protocol.specs.Basic.{all}
 use Rattle.protocol.specs.Rows.{Cause}
 use Rattle.text_format.specs.Text.{bytes}
