@@ -1,6 +1,6 @@
 // Decimal numbers from standard input. Anything that is no digit and no minus sign stands between two numbers.
 use protocol::{Item, Parts, Session, Settings, WIDTH};
-use std::io::{Read, Stdin};
+use std::io::Stdin;
 
 // A number as far as it was read, and whether it has begun.
 #[derive(Clone, Copy)]
@@ -109,7 +109,10 @@ impl Input {
     // The next byte; none where the input has ended, or a read fails.
     fn next(&mut self) -> Option<u8> {
         if self.at >= self.end {
-            self.end = self.from.read(&mut self.bytes).unwrap_or(0);
+            self.end = match streams::read(&mut self.from, &mut self.bytes) {
+                Ok(count) => count,
+                Err(stopped) => stopped.count,
+            };
             self.at = 0;
         }
         if self.at >= self.end {

@@ -134,7 +134,7 @@ pub extern "C" fn wovenrock_round(
     }
     match prover::round(s, done, key, message) {
         Ok(elements) => {
-            slices::store_polynomial(s, elements, polynomial);
+            slices::store_polynomial(s, &elements, polynomial);
             0
         }
         Err(refusal) => refusal.number(),

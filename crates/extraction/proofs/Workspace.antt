@@ -1,11 +1,11 @@
 -- The root's vector in a local list with room for two vectors: there is room for it, and its second half, copied, is the vector.
 use mathlib.Core.Path.{◌≡◌, sym, ap, ◌∙◌, subst}
-use mathlib.Core.List.{List, ◌++◌}
+use mathlib.Core.List.{List, ◌++◌, append-nil}
 use Prim.Native.Nat.{ℕ, ◌*◌, ◌-◌, ◌≤◌}
 use native.Mathlib.Nat as Nat
 use native.Mathlib.Omega.{arith}
-use lib.ListN.{length, take, drop, length-append, length-drop, length-take}
-use lib.Seq.{drop-append-le, take_at}
+use lib.ListN.{length, take, drop, length-append, length-drop, length-take, drop_of_length-le}
+use lib.Seq.{drop-append-le, take_at, take-length}
 use lib.IntN.{ℤ}
 use Rattle.protocol.specs.declared.Settings.{Settings}
 use Rattle.protocol.specs.Settings.{size, cells}
@@ -25,6 +25,15 @@ module _ (n : ℕ) (l z : List ℤ) (room : n ≤ vector_room) (lent : length l 
   copied =
       ap (take (2 * n - n)) (drop-append-le n l (drop (2 * n) z) (omega (arith, lent)))
       ∙ take_at (drop n l) (drop (2 * n) z) (2 * n - n) (length-drop n l ∙ omega (arith, lent))
+
+-- a vector of n numbers, copied to a table of n
+pub stored : (n : ℕ) (v u w : List ℤ) → v ≡ u → length u ≡ n → length w ≡ n → take n v ++ drop n w ≡ u
+stored n v u w e lu lw =
+    ap (λ l. take n l ++ drop n w) e
+    ∙ ap (λ l. take n u ++ l) (drop_of_length-le w {i = n} (omega (arith, lw)))
+    ∙ append-nil (take n u)
+    ∙ ap (λ m. take m u) (sym lu)
+    ∙ take-length u
 
 module _ (S : Settings) (E : List ℕ) (finals : List ℤ) (tree : Extractable S E finals) where
   pub root-room : cells S ≤ vector_room

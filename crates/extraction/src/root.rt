@@ -1,5 +1,5 @@
 // The vector of a tree's root.
-ghost use Rattle.std.specs.Prelude.{◌≡◌, ◌*◌, length};
+ghost use Rattle.std.specs.Prelude.{◌≡◌, ◌*◌, ◌≤◌, ◌++◌, length, take, drop};
 ghost use Rattle.protocol.specs.Settings.{cells};
 ghost use Rattle.protocol.specs.Tree.{root_vector};
 ghost use Rattle.extraction.specs.Nodes.{vector_room, Extractable};
@@ -18,6 +18,14 @@ fn workspace() -> [i64; WORKSPACE]
     ensures { length result ≡ 2 * vector_room }
 {
     [0i64; WORKSPACE]
+}
+
+// Copies the first n numbers of a vector.
+fn store(n: usize, vector: &[i64], w: &mut [i64])
+    requires { (n ≤ length vector.now) × (n ≤ length w.old) }
+    ensures { w.new ≡ take n vector.now ++ drop n w.old }
+{
+    w[..n].copy_from_slice(&vector[..n]);
 }
 
 // The nodes' vectors are worked out in a local list, with room for two copies of one element beside it.
@@ -41,5 +49,5 @@ pub(crate) fn root(settings: Settings, challenges: &[u32], leaves: &[i32], w: &m
         &mut ws[..end],
         &mut room,
     );
-    w.copy_from_slice(&ws[cells..end]);
+    store(cells, &ws[cells..end], w);
 }

@@ -1,1 +1,2 @@
 mod Folds
+mod Reach

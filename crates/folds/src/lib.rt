@@ -17,7 +17,7 @@ use residues::{Entry, ROWS_FROM};
 // The most elements of a half: `half_most` of the definitions.
 pub const HALF_MOST: u32 = 128;
 
-// The n numbers from a place on, moved down to another place of the same table.
+// The n numbers from a place on, moved down to another place of the same table: in one slice with those that are read, so the loop counts.
 fn move_down(n: usize, from: usize, to: usize, t: &mut [Residue])
     requires { (to ≤ from) × (from + n ≤ length t.old) }
     ensures { t.new ≡ spliced (λ k. get_or t.old (from + k) 0) to n t.old }
@@ -25,7 +25,9 @@ fn move_down(n: usize, from: usize, to: usize, t: &mut [Residue])
     if to == from {
         return;
     }
-    t.copy_within(from..from + n, to);
+    for k in 0..n {
+        t[to + k] = t[from + k];
+    }
 }
 
 // Adds the number that stands `place` places behind `from` to the one that stands as far behind `to`, or takes it away.
@@ -106,7 +108,7 @@ fn add_grid<T: Entry, S: Sum<T>>(
 }
 
 // The same of m coefficients of each of h elements, column after column or row after row.
-pub fn add_part<T: Entry, S: Sum<T>>(
+fn add_places<T: Entry, S: Sum<T>>(
     by: S,
     negative: bool,
     d: usize,
@@ -124,6 +126,51 @@ pub fn add_part<T: Entry, S: Sum<T>>(
         return;
     }
     add_grid(by, negative, m, 1, d, h, from, to, t);
+}
+
+// The same for every input: the table stays as it is where a size is past its limit, or the numbers that are added do not stand in it behind all that are written.
+pub fn add_part<T: Entry, S: Sum<T>>(
+    by: S,
+    negative: bool,
+    d: usize,
+    h: usize,
+    m: usize,
+    from: usize,
+    to: usize,
+    t: &mut [T],
+)
+    ensures { Provided ((0 < d) × (d ≤ width) × (h ≤ half_most) × (m ≤ d) × Apart (Grid m 1 d h) from to (length t.old))
+        (Added T.NONE (S.allowed by) (S.sum by negative) from to (Grid m 1 d h) t.old t.new) }
+{
+    if d > WIDTH {
+        return;
+    }
+    if h > HALF_MOST as usize {
+        return;
+    }
+    if m > d {
+        return;
+    }
+    if h == 0 {
+        return;
+    }
+    if m == 0 {
+        return;
+    }
+    let reach = h * d + m - d;
+    if t.len() < reach {
+        return;
+    }
+    if t.len() - reach < from {
+        return;
+    }
+    if from < reach {
+        return;
+    }
+    if from - reach < to {
+        return;
+    }
+    add_places(by, negative, d, h, m, from, to, t);
 }
 
 // Adds X^e times each of the h elements from place `second` on to those from place `to` on, which stand before them.

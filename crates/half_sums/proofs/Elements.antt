@@ -1,20 +1,22 @@
 -- An element of the sums of two tables' halves: as the code works it out, and how large it is.
 use mathlib.Core.Path.{◌≡◌, sym, ap, ◌∙◌, subst}
 use mathlib.Core.List.{List}
-use Prim.Native.Nat.{ℕ, ◌+◌, ◌*◌, ◌-◌, ◌%◌, ◌^◌, ◌<◌, ◌≤◌}
+use Prim.Native.Nat.{ℕ, ◌+◌, ◌*◌, ◌%◌, ◌^◌, ◌<◌, ◌≤◌}
 use native.Mathlib.Nat as Nat
 use native.Mathlib.Omega.{arith}
 use lib.IntN.{ℤ, pos, nat_abs, ◌+ℤ◌}
-use lib.ListN.{length, get_or, take, drop}
+use lib.ListN.{length, get_or}
 use Rattle.algebra.specs.Magnitude.{nat_abs-add}
+use Rattle.protocol.specs.Basic.{Provided}
 use Rattle.protocol.specs.Element.{modulo, plus, signed_at, residue_at}
 use Rattle.protocol.specs.Opening.{second}
 use Rattle.protocol.proofs.Modulo.{modulo-lt}
 use Rattle.protocol.proofs.Reading.{cell-inside, row_inside}
-use Rattle.residues.specs.Residues.{BothBelow, BothSmall, Residues, signed}
+use Rattle.residues.specs.Lists.{filled}
+use Rattle.residues.specs.Residues.{Residues}
 use Rattle.residues.proofs.Fill.{filled_at}
 use Rattle.residues.proofs.Parts.{tail_at, tail-length}
-use Rattle.half_sums.specs.Room.{Room, Long, Summed, part}
+use Rattle.half_sums.specs.Room.{Room, Long, part}
 use Rattle.half_sums.specs.Halves.{Small, message_sums, key_sum_at, MessageAt, MessageSum, KeyAt, KeySum, Halves, HalvesAt, HalfSums}
 
 -- ---- as the code works it out
@@ -55,37 +57,33 @@ module _ (d h i at behind : ℕ) (f : List ℤ) (z : MessageAt d h i at behind f
   )
 
   pub message-sum_is : (m m' : List ℤ) → d ≤ length m
-      → Summed (pos 0) (λ _. BothSmall) (λ _ negative x y. x +ℤ signed negative y) (tt {0}) d (part at f) (part behind f) m m' → MessageSum d h f i m'
-  unfolding message_sums plus second signed_at signed
+      → Provided (Long d (length (part at f)) (length (part behind f)) (length m))
+      (Provided (Room d (part at f) × Room d (part behind f)) (m' ≡ filled (λ p. get_or (part at f) p (pos 0) +ℤ get_or (part behind f) p (pos 0)) d m)) → MessageSum d h f i m'
+  unfolding message_sums plus second signed_at
   message-sum_is m m' lm ms j l =
       let i1 = first_inside d h i at behind z.inside z.first z.second_at in
       let i2 = second_inside d h i at behind z.inside z.first z.second_at in
-      ap (λ x. get_or x j (pos 0))
-      (ms (long d h i at behind z.inside z.first z.second_at f (length m) z.long lm) (λ p b. record { left = (room at i1).each p b; right = (room behind i2).each p b }))
+      ap (λ x. get_or x j (pos 0)) (ms (long d h i at behind z.inside z.first z.second_at f (length m) z.long lm) (room at i1, room behind i2))
       ∙ filled_at _ d m (pos 0) j l
       ∙ λ t. (tail_at at f j (pos 0) ∙ ap (λ n. get_or f n (pos 0)) (one d h i at behind z.inside z.first z.second_at j)) t
       +ℤ (tail_at behind f j (pos 0) ∙ ap (λ n. get_or f n (pos 0)) (two d h i at behind z.inside z.first z.second_at j)) t
 
 module _ (q d h i at behind : ℕ) (g : List ℕ) (z : KeyAt q d h i at behind g) where
-  residues : (s : ℕ) → s + d ≤ 2 * (h * d) → d ≤ length (take (length g - s) (drop s g)) → Residues q d 0 (take (length g - s) (drop s g))
+  residues : (s : ℕ) → s + d ≤ 2 * (h * d) → d ≤ length (part s g) → Residues q d 0 (part s g)
   residues s l long = record { long = omega arith; each = λ j m. subst (λ x. x < q) (sym (tail_at s g (0 + j) 0)) (z.residues (s + (0 + j)) (omega arith)) }
 
   pub key-inside : (at ≤ length g) × (behind ≤ length g)
   key-inside = (omega (arith, z.long, first_inside d h i at behind z.inside z.first z.second_at), omega (arith, z.long, second_inside d h i at behind z.inside z.first z.second_at))
 
   pub key-sum_is : (k k' : List ℕ) → d ≤ length k
-      → Summed 0 (λ n. BothBelow n) (λ n negative x y. modulo n (pos x +ℤ signed negative (pos y))) q d (part at g) (part behind g) k k' → KeySum q d h g i k'
-  unfolding key_sum_at plus second residue_at modulo signed
+      → Provided (Long d (length (part at g)) (length (part behind g)) (length k))
+      (Provided (Residues q d 0 (part at g) × Residues q d 0 (part behind g)) (k' ≡ filled (λ p. (get_or (part at g) p 0 + get_or (part behind g) p 0) % q) d k)) → KeySum q d h g i k'
+  unfolding key_sum_at plus second residue_at modulo
   key-sum_is k k' lk ks j l =
       let lg = long d h i at behind z.inside z.first z.second_at g (length k) z.long lk in
       let i1 = first_inside d h i at behind z.inside z.first z.second_at in
       let i2 = second_inside d h i at behind z.inside z.first z.second_at in
-      let r1 = residues at i1 lg.first-long in
-      let r2 = residues behind i2 lg.second_long in
-      ap (λ x. get_or x j 0) (ks lg (λ p b. record {
-        left = omega (arith, ap (λ n. get_or (part at g) n 0) (Nat.zero-add p), r1.each p b);
-        right = omega (arith, ap (λ n. get_or (part behind g) n 0) (Nat.zero-add p), r2.each p b);
-      }))
+      ap (λ x. get_or x j 0) (ks lg (residues at i1 lg.first-long, residues behind i2 lg.second_long))
       ∙ filled_at _ d k 0 j l
       ∙ λ t. ((tail_at at g j 0 ∙ ap (λ n. get_or g n 0) (one d h i at behind z.inside z.first z.second_at j)) t
       + (tail_at behind g j 0 ∙ ap (λ n. get_or g n 0) (two d h i at behind z.inside z.first z.second_at j)) t) % q

@@ -1,16 +1,41 @@
 // The sums of the two halves of a table, number by number; the second half comes as a part of the table. Every public function is safe for every input.
 #![tactic(auto)]
 
-ghost use Rattle.std.specs.Prelude.{◌≡◌, ℕ, ◌+◌, ◌%◌, ◌≤◌, pos, ◌+ℤ◌, length, get_or};
+ghost use Rattle.std.specs.Prelude.{◌≡◌, ℕ, ◌+◌, ◌%◌, ◌^◌, ◌<◌, ◌≤◌, pos, nat_abs, ◌+ℤ◌, length, get_or};
 ghost use Rattle.protocol.specs.Basic.{Provided};
 ghost use Rattle.residues.specs.Lists.{filled};
-ghost use Rattle.residues.specs.Residues.{Residues};
-ghost use Rattle.half_sums.specs.Room.{Room, Long, Summed, part};
+ghost use Rattle.residues.specs.Residues.{BothSmall, Residues, signed};
+ghost use Rattle.half_sums.specs.Room.{Room, Long, Summed};
 ghost use Rattle.half_sums.specs.Halves.{MessageAt, MessageSum, KeyAt, KeySum, HalvesAt, HalfSums};
 
 use protocol::Residue;
 use residues::Entry;
-use residues::sums::{Modulo, Sum, Whole};
+use residues::sums::{Modulo, Sum};
+
+// x, or 0 where it is so large that two such numbers may have no sum of 32 bits.
+fn limited(x: i32) -> i32
+    ensures { (nat_abs result < 2 ^ 30) × Provided (nat_abs x < 2 ^ 30) (result ≡ x) }
+{
+    if x.unsigned_abs() < 1073741824 { x } else { 0 }
+}
+
+// Whole numbers, of which one that is too large counts as 0: so a sum of two needs no test of the message before it.
+#[derive(Clone, Copy)]
+struct Narrow;
+
+impl Sum<i32> for Narrow {
+    ghost allowed = { λ _. BothSmall };
+
+    ghost sum = { λ _ negative x y. x +ℤ signed negative y };
+
+    fn add(self, negative: bool, x: i32, y: i32) -> i32 {
+        if negative {
+            limited(x) - limited(y)
+        } else {
+            limited(x) + limited(y)
+        }
+    }
+}
 
 // The sums of the first n numbers of two tables, written to the front of a third.
 fn add_parts<T: Entry, S: Sum<T>>(by: S, n: usize, first: &[T], second: &[T], sums: &mut [T])
@@ -31,32 +56,12 @@ fn add_parts<T: Entry, S: Sum<T>>(by: S, n: usize, first: &[T], second: &[T], su
     }
 }
 
-// The sums of two elements of a table, which begin at these two places, written to the front of another.
-fn add_elements<T: Entry, S: Sum<T>>(
-    by: S,
-    d: usize,
-    at: usize,
-    behind: usize,
-    t: &[T],
-    sums: &mut [T],
-)
-    ensures { Provided ((at ≤ length t.now) × (behind ≤ length t.now)) (Summed T.NONE S.allowed S.sum by d (part at t.now) (part behind t.now) sums.old sums.new) }
-{
-    if t.len() < at {
-        return;
-    }
-    if t.len() < behind {
-        return;
-    }
-    add_parts(by, d, &t[at..], &t[behind..], sums);
-}
-
 // Of a message, whose halves have n numbers.
 pub fn message_sums(n: usize, first: &[i32], second: &[i32], sums: &mut [i32])
     ensures { Provided (Long n (length first.now) (length second.now) (length sums.old)) (Provided (Room n first.now
         × Room n second.now) (sums.new ≡ filled (λ p. get_or first.now p (pos 0) +ℤ get_or second.now p (pos 0)) n sums.old)) }
 {
-    add_parts(Whole, n, first, second, sums);
+    add_parts(Narrow, n, first, second, sums);
 }
 
 // Of a key, modulo q.
@@ -72,7 +77,13 @@ pub fn add_message(d: usize, at: usize, behind: usize, f: &[i32], m: &mut [i32])
     ensures { (h i : ℕ) → Provided (MessageAt d h i at behind f.now × (d ≤ length m.old))
         (MessageSum d h f.now i m.new) }
 {
-    add_elements(Whole, d, at, behind, f, m);
+    if f.len() < at {
+        return;
+    }
+    if f.len() < behind {
+        return;
+    }
+    message_sums(d, &f[at..], &f[behind..], m);
 }
 
 // The same of a key, modulo q.
@@ -80,7 +91,13 @@ pub fn add_key(q: Residue, d: usize, at: usize, behind: usize, g: &[Residue], k:
     ensures { (h i : ℕ) → Provided (KeyAt q d h i at behind g.now × (d ≤ length k.old))
         (KeySum q d h g.now i k.new) }
 {
-    add_elements(Modulo { q }, d, at, behind, g, k);
+    if g.len() < at {
+        return;
+    }
+    if g.len() < behind {
+        return;
+    }
+    key_sums(q, d, &g[at..], &g[behind..], k);
 }
 
 // The same of both.

@@ -54,7 +54,7 @@ pub fn prepare(q: u64, y: u64) -> Factor
 fn upper(x: u64, y: u64) -> u64
     ensures { result ≡ x * y / 2 ^ 64 }
 {
-    (u128::from(x) * u128::from(y) >> 64) as u64
+    x.carrying_mul(y, 0).1
 }
 
 // x·y modulo q, y being the prepared factor and x any number: the estimate of the quotient is at most 1 too small.

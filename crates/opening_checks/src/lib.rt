@@ -82,7 +82,10 @@ pub fn verdict(
         (said result ≡ session.verdict (holds && every settings.rows (λ i. end_met settings (row_claim settings claims.now i) (signed last.now)
         (residue (key_row settings key.now i))))) }
 {
-    if holds && ends_hold(settings, claims, last, key) {
+    if !holds {
+        return Verdict::Rejected;
+    }
+    if ends_hold(settings, claims, last, key) {
         Verdict::Accepted
     } else {
         Verdict::Rejected

@@ -189,6 +189,6 @@ pub fn print(text: &[u8], out: &mut [u8]) -> usize
     let mut listing = [0u8; TEXT_LIMIT];
     match prove(text, &mut listing) {
         Ok(count) => table_writer::show(&listing[..count], out),
-        Err(refusal) => table_writer::show_refusal(refusal, out),
+        Err(refusal) => table_writer::show_refusal(refusal.number(), out),
     }
 }

@@ -1,11 +1,6 @@
 -- Loops that test one entry after the other.
-use Rattle.std.proofs.Common.{◌≡◌, ℕ, zero, suc, ◌+◌, ◌^◌, ◌<◌, ◌≤◌, Bool, true, false, ◌&&◌, leb, List, [], ◌∷◌, ◌++◌, length, get_or, take, drop, ℤ, pos, nat_abs, sym, refl, ap, ◌∙◌, ap₂, add-one, arith, drop_of_length-le, drop-cons, take-add, to_z-of_z, SFits, to_z, of_z, le-leb}
-use borrow.Author.Tests.{lt-leb}
-use lib.Signed.{mag}
-use mir.Syntax.{Width}
-use mir.Val.{hbits}
-use Rattle.protocol.specs.Basic.{every, all, within}
-use Rattle.ranges.proofs.Magnitude.{through-bits}
+use Rattle.std.proofs.Common.{◌≡◌, ℕ, zero, suc, ◌+◌, ◌<◌, ◌≤◌, Bool, true, false, ◌&&◌, List, [], ◌∷◌, ◌++◌, length, get_or, take, drop, sym, refl, ap, ◌∙◌, ap₂, add-one, arith, drop_of_length-le, drop-cons, take-add}
+use Rattle.protocol.specs.Basic.{every, all}
 use Rattle.protocol.proofs.Tests.{and_intro, every_at}
 
 -- ---- over a table, in a loop that asks all entries: what is known, and what is left, decide

@@ -71,11 +71,27 @@ pub fn allow(settings: Settings) -> Result<(), Refusal>
     require(rows_allowed(settings), Refusal::Rows)
 }
 
-// Is every number of a table below the limit: refusal 10 at 2d.
+// Is every number of a table below the limit: refusal 10 at 2d. The loops over tables ask all numbers, also after one that fails, so that the compiler takes
+// several at a time.
 pub fn all_below(limit: u32, t: &[u32]) -> bool
     ensures { result ≡ all (λ x. ltb x limit) t.now }
 {
-    t.iter().all(|x| *x < limit)
+    let mut good = true;
+    for x in t {
+        good = good & (*x < limit);
+    }
+    good
+}
+
+// The same of numbers of 64 bits, for every limit.
+fn all_below_any(limit: u64, t: &[u64]) -> bool
+    ensures { result ≡ all (λ x. ltb x limit) t.now }
+{
+    let mut good = true;
+    for x in t {
+        good = good & (*x < limit);
+    }
+    good
 }
 
 // 2^63: the highest bit of a number of 64 bits.
@@ -95,7 +111,7 @@ pub fn all_below_wide(limit: u64, t: &[u64]) -> bool
     ensures { result ≡ all (λ x. ltb x limit) t.now }
 {
     if limit > SIGN {
-        return t.iter().all(|x| *x < limit);
+        return all_below_any(limit, t);
     }
     let mut signs: u64 = 0;
     for x in t {
@@ -173,7 +189,7 @@ impl Signed for i64 {
 
     #[tactic(auto, unfolding(protocol::specs::Basic::within))]
     fn is_within(self, most: u64) -> bool {
-        self.unsigned_abs() <= most
+        most >= self.unsigned_abs()
     }
 }
 

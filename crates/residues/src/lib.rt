@@ -164,7 +164,10 @@ pub fn store<T: Entry>(n: usize, row: &[T], at: usize, out: &mut [T])
     if out.len() - n < at {
         return;
     }
-    out[at..at + n].copy_from_slice(&row[..n]);
+    let part = &mut out[at..at + n];
+    for (k, x) in part.iter_mut().enumerate() {
+        *x = row[k];
+    }
 }
 
 // A table copied to the front of one that is not shorter.

@@ -1,10 +1,9 @@
-// How two numbers are added, and rows of them that are added number by number.
-ghost use Rattle.std.specs.Prelude.{Bool, ◌≡◌, ℕ, ◌+◌, ◌<◌, ◌≤◌, length, pos, ◌+ℤ◌, get_or};
-ghost use Rattle.protocol.specs.Basic.{Provided, tabulate};
+// How two numbers are added.
+ghost use Rattle.std.specs.Prelude.{Bool, ◌≡◌, pos, ◌+ℤ◌};
+ghost use Rattle.protocol.specs.Basic.{Provided};
 ghost use Rattle.protocol.specs.Element.{modulo};
 ghost use Rattle.residues.specs.Residues.{BothBelow, BothSmall, signed};
 
-use crate::Entry;
 use protocol::Residue;
 
 // A way to add two numbers, or to take the second away: which numbers it allows, and what it makes of them.
@@ -48,16 +47,5 @@ impl Sum<i32> for Whole {
         } else {
             x.wrapping_add(y)
         }
-    }
-}
-
-// Adds a row to as many numbers, each to the one at its place, or takes it away.
-pub fn add_row<T: Entry, S: Sum<T>>(by: S, negative: bool, row: &[T], sums: &mut [T])
-    requires { length sums.old ≤ length row.now }
-    ensures { Provided ((k : ℕ) → k < length sums.old → S.allowed by (get_or sums.old k T.NONE) (get_or row.now k T.NONE))
-        (sums.new ≡ tabulate (length sums.old) (λ k. S.sum by negative (get_or sums.old k T.NONE) (get_or row.now k T.NONE))) }
-{
-    for (k, x) in sums.iter_mut().enumerate() {
-        *x = by.add(negative, *x, row[k]);
     }
 }

@@ -3,7 +3,7 @@
 // several at a time.
 #![tactic(auto)]
 
-ghost use Rattle.std.specs.Prelude.{⊤, ◌≡◌, ℕ, ◌+◌, ◌*◌, ◌^◌, ◌<◌, ◌≤◌, length, pos, ◌+ℤ◌};
+ghost use Rattle.std.specs.Prelude.{⊤, ◌≡◌, ℕ, ◌+◌, ◌*◌, ◌^◌, ◌<◌, ◌≤◌, length, pos, ◌+ℤ◌, get_or};
 ghost use Rattle.protocol.specs.Basic.{Provided, tabulate};
 ghost use Rattle.protocol.specs.Element.{modulo};
 ghost use Rattle.residues.specs.Lists.{spliced};
@@ -11,7 +11,8 @@ ghost use Rattle.residues.specs.Residues.{signed};
 ghost use Rattle.rotations.specs.Values.{Addable, Adds, Turnable, Gatherable, Valued, plus_turned};
 
 use protocol::Residue;
-use residues::sums::{Modulo, Sum, add_row};
+use residues::Entry;
+use residues::sums::{Modulo, Sum};
 
 // Numbers modulo 2^64: sums of numbers with signs, which are reduced modulo q once all are added.
 #[derive(Clone, Copy)]
@@ -28,6 +29,17 @@ impl Sum<u64> for Word {
         } else {
             x.wrapping_add(y)
         }
+    }
+}
+
+// Adds a row to as many numbers, each to the one at its place, or takes it away.
+fn add_row<T: Entry, S: Sum<T>>(by: S, negative: bool, row: &[T], sums: &mut [T])
+    requires { length sums.old ≤ length row.now }
+    ensures { Provided ((k : ℕ) → k < length sums.old → S.allowed by (get_or sums.old k T.NONE) (get_or row.now k T.NONE))
+        (sums.new ≡ tabulate (length sums.old) (λ k. S.sum by negative (get_or sums.old k T.NONE) (get_or row.now k T.NONE))) }
+{
+    for (k, x) in sums.iter_mut().enumerate() {
+        *x = by.add(negative, *x, row[k]);
     }
 }
 

@@ -1,14 +1,13 @@
 -- A prepared element: three rows of residues that stand at the front of a room.
-use Rattle.std.proofs.Common.{◌≡◌, ℕ, ◌+◌, ◌-◌, ◌*◌, ◌/◌, ◌%◌, ◌<◌, ◌≤◌, ◌≢◌, List, length, get_or, pos, neg_ℤ, sym, ap, ◌∙◌, arith}
+use Rattle.std.proofs.Common.{◌≡◌, ℕ, ◌+◌, ◌-◌, ◌*◌, ◌/◌, ◌%◌, ◌<◌, ◌≤◌, List, length, get_or, pos, neg_ℤ, sym, ap, ◌∙◌, arith}
 use native.Mathlib.Nat as Nat
-use native.Mathlib.Decide.{dec_lt}
-use Rattle.protocol.specs.Element.{Element, modulo, flips, around, residue}
+use Rattle.protocol.specs.Element.{Element, modulo, flips, around}
 use Rattle.residues.specs.Lists.{spliced}
 use Rattle.protocol.proofs.Modulo.{modulo-lt}
 use Rattle.protocol.proofs.Reading.{cell-element, cell-place}
 use Rattle.residues.proofs.Around.{around_first, around-third, around_next}
 use Rattle.residues.proofs.Signs.{negative-again}
-use Rattle.residues.proofs.Splice.{spliced-inside, spliced-length, spliced-before, spliced-behind, spliced-known}
+use Rattle.residues.proofs.Splice.{spliced-inside, spliced-length}
 use Rattle.rows.specs.Rows.{strand, woven, turned, Prepared}
 
 -- number k of strand r
@@ -72,50 +71,3 @@ module _ (q d : ℕ) (p : 0 < q) (pd : 0 < d) (a : Element) where
     place-third =
         place_first
         ∙ ap (modulo q) (around_first d a k h ∙ ap a {y = 2 * d + k - d - d} (omega arith) ∙ sym (around-third d a (2 * d + k) (omega arith) (omega arith)))
-
--- a, a again and its negatives, written one after the other, are the rows of a; s is what the negatives are
-module _ (q d : ℕ) (a y t u s : List ℕ) (long : 3 * d ≤ length y) (below : (k : ℕ) → k < d → get_or a k 0 < q) (et : t ≡ spliced (λ k. get_or a k 0) 0 d y)
-    (eu : u ≡ spliced (λ k. get_or a k 0) (2 * d) d t) (es : s ≡ spliced (λ k. modulo q (neg_ℤ (pos (get_or a k 0)))) d d u) where
-  lt : length t ≡ length y
-  lt = ap length et ∙ spliced-length _ 0 d y (omega arith) (omega arith)
-
-  lu : length u ≡ length t
-  lu = ap length eu ∙ spliced-length _ (2 * d) d t (omega (arith, lt)) (omega (arith, lt))
-
-  ls : length s ≡ length u
-  ls = ap length es ∙ spliced-length _ d d u (omega (arith, lt, lu)) (omega (arith, lt, lu))
-
-  own : (k : ℕ) → k < d → get_or a k 0 ≡ modulo q (residue a k)
-  unfolding modulo residue
-  own k h = sym (Nat.mod-eq_of_lt (below k h))
-
-  at_s : (k : ℕ) → ((j : ℕ) → j < d → k ≢ d + j) → get_or s k 0 ≡ get_or u k 0
-  at_s k h = elim (dec_lt k d) [
-    | yes b ↦ ap (λ l. get_or l k 0) es ∙ spliced-before _ d d u (omega (arith, lt, lu)) k b
-    | no b ↦ ap (λ l. get_or l k 0) es ∙ spliced-behind _ d d u (omega (arith, lt, lu)) k (elim (dec_lt k (d + d)) [ yes c ↦ absurd (h (k - d) (omega arith) (omega arith)) | no c ↦ omega arith ])
-  ]
-
-  inside : (k : ℕ) → k < 3 * d → get_or s (0 + k) 0 ≡ turned q d (residue a) k
-  inside k h = let pd : 0 < d = omega arith in let p : 0 < q = omega (arith, below 0 pd) in ap (λ n. get_or s n 0) (Nat.zero-add k) ∙ elim (dec_lt k d) [
-    | yes b ↦ at_s k (λ j _ e. absurd (omega arith)) ∙ ap (λ l. get_or l k 0) eu ∙ spliced-before _ (2 * d) d t (omega (arith, lt)) k (omega arith)
-        ∙ ap (λ n. get_or t n 0) (sym (Nat.zero-add k)) ∙ ap (λ l. get_or l (0 + k) 0) et ∙ spliced-inside _ 0 d y (omega arith) k b
-        ∙ place_first q d p pd (residue a) k (get_or a k 0) b (own k b)
-    | no b ↦ elim (dec_lt k (2 * d)) [
-      | yes c ↦
-          let j = k - d in
-          let in_row : j < d = omega arith in
-          ap (λ n. get_or s n 0) {y = d + (k - d)} (omega arith) ∙ ap (λ l. get_or l (d + j) 0) es ∙ spliced-inside _ d d u (omega (arith, lt, lu)) j in_row
-          ∙ place_second q d p pd (residue a) j (get_or a j 0) in_row (own j in_row) ∙ ap (turned q d (residue a)) {x = d + (k - d)} (omega arith)
-      | no c ↦
-          let j = k - 2 * d in
-          let in_row : j < d = omega arith in
-          at_s k (λ i b e. absurd (omega arith)) ∙ ap (λ n. get_or u n 0) {y = 2 * d + (k - 2 * d)} (omega arith) ∙ ap (λ l. get_or l (2 * d + j) 0) eu
-          ∙ spliced-inside _ (2 * d) d t (omega (arith, lt)) j in_row
-          ∙ place-third q d p pd (residue a) j (get_or a j 0) in_row (own j in_row) ∙ ap (turned q d (residue a)) {x = 2 * d + (k - 2 * d)} (omega arith)
-    ]
-  ]
-
-  pub rows-written : s ≡ spliced (turned q d (residue a)) 0 (3 * d) y
-  rows-written = spliced-known 0 (turned q d (residue a)) 0 (3 * d) y s (omega arith) (ls ∙ lu ∙ lt) (λ j h. absurd (omega arith)) inside
-      (λ j h. at_s j (λ i b e. absurd (omega arith)) ∙ ap (λ l. get_or l j 0) eu ∙ spliced-behind _ (2 * d) d t (omega (arith, lt)) j (omega arith)
-      ∙ ap (λ l. get_or l j 0) et ∙ spliced-behind _ 0 d y (omega arith) j (omega arith))

@@ -1,3 +1,4 @@
 pub mod Rows
 pub mod Terms
+pub mod ThreeRows
 pub mod Extension

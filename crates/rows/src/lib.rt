@@ -18,11 +18,12 @@ fn write_rows(q: Residue, d: usize, a: &[Residue], y: &mut [u64])
     requires { (d ≤ rows_width) × (d ≤ length a.now) × (3 * d ≤ length y.old) }
     ensures { Provided (Residues q d a.now) (y.new ≡ spliced (turned q d (residue a.now)) 0 (3 * d) y.old) }
 {
-    residues::store(d, a, 0, y);
-    residues::store(d, a, 2 * d, y);
-    let second = &mut y[d..2 * d];
-    for (k, x) in second.iter_mut().enumerate() {
-        *x = residues::negated(q, a[k]);
+    // One loop: at a small degree a copy of a row costs more than its numbers.
+    for k in 0..d {
+        let x = a[k];
+        y[k] = x;
+        y[d + k] = residues::negated(q, x);
+        y[2 * d + k] = x;
     }
 }
 

@@ -98,9 +98,9 @@ pub fn store_wholes(d: u32, a: [i32; WIDTH], out: &mut [i32])
 }
 
 // Writes the three items of a round polynomial one after the other to a slice of 3·rows·d numbers.
-pub fn store_polynomial(settings: Settings, p: Polynomial, out: &mut [Residue])
+pub fn store_polynomial(settings: Settings, p: &Polynomial, out: &mut [Residue])
     ensures { Provided (settings_refusal settings ≡ 0)
-        (Provided (length out.old ≡ polynomial_cells settings) (out.new ≡ laid settings p)) }
+        (Provided (length out.old ≡ polynomial_cells settings) (out.new ≡ laid settings p.now)) }
 {
     let d = settings.degree as usize;
     let rows = settings.rows as usize;

@@ -8,20 +8,27 @@ ghost use Rattle.std.specs.Io.KnownBytes.{Appends, Consumes, IsAtEnd};
 use std::io;
 use std::io::{ErrorKind, Read, Write};
 
-// Reads until the slice is full or the input ends, and answers how many bytes were read. Where a read fails, those before it stand at the front of the slice.
-pub fn read<R: Read>(from: &mut R, text: &mut [u8]) -> io::Result<usize>
-    ensures within { IfOk result (λ n. n ≤ length text.new) }
-    ensures counted { IfOk result (λ n. n ≡ length (take n text.new)) }
+// A read failed, behind so many bytes that were read.
+#[derive(Clone, Copy)]
+pub struct Stopped {
+    pub count: usize,
+}
+
+// Reads until the slice is full, the input ends or a read fails, and answers how many bytes were read: they stand at the front of the slice.
+pub fn read<R: Read>(from: &mut R, text: &mut [u8]) -> Result<usize, Stopped>
+    ensures within { MatchResult result (λ n. n ≤ length text.new) (λ stopped. stopped.count ≤ length text.new) }
+    ensures counted { MatchResult result (λ n. n ≡ length (take n text.new)) (λ stopped. stopped.count ≡ length (take stopped.count text.new)) }
     ensures bytes { MatchResult result
         (λ n. Consumes (R.remaining from.old) (R.remaining from.new) (take n text.new))
-        (λ _. (n : ℕ) × (n ≤ length text.new) × Consumes (R.remaining from.old) (R.remaining from.new) (take n text.new)) }
+        (λ stopped. Consumes (R.remaining from.old) (R.remaining from.new) (take stopped.count text.new)) }
     ensures whole { IfOk result (λ n. n < length text.new → IsAtEnd (R.remaining from.new)) }
 {
-    let mut done = 0;
+    let mut done: usize = 0;
     while done < text.len() {
-        match from.read(&mut text[done..])? {
-            0 => return Ok(done),
-            more => done += more,
+        match from.read(&mut text[done..]) {
+            Ok(0) => return Ok(done),
+            Ok(more) => done += more,
+            Err(_) => return Err(Stopped { count: done }),
         }
     }
     Ok(done)

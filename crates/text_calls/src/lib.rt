@@ -1,4 +1,4 @@
-// The calls on text with numbers and slices only, for C and Rust.
+// The calls on text for C and Rust; what `exports` adds is the numbers of their answers.
 //
 // Settings go to a slice of five numbers: degree, depth, modulus, bound, rows. Which of parts 1 to 7 are there is a number below 128: bit 0 is the key, bit 6 the
 // claims. A refused call writes nothing to a slice.
@@ -13,6 +13,7 @@ ghost use Rattle.protocol.specs.Refusal.{number, refusal_of};
 ghost use Rattle.protocol.specs.Session.{verdict_number};
 ghost use Rattle.text_format.specs.Text.{look_refusal};
 ghost use Rattle.text_format.specs.Programs.{checked, verify_answer};
+ghost use Rattle.text_parts.specs.Parts.{lengths_of};
 ghost use Rattle.text_parts.specs.Lent.{tables_read, tables_lent, Kept};
 ghost use Rattle.text_calls.specs.Texts.{parts_of};
 ghost use Rattle.text_calls.specs.Promises.{Looked, ReadStored, WroteStored, Verdicts, ProvedStored};
@@ -69,6 +70,7 @@ pub fn read(
     tables: &mut TablesMut<'_>,
 ) -> Result<(), Refusal>
     ensures kept { Kept tables.old tables.new }
+    ensures lengths { lengths_of (tables_lent tables.new) ≡ lengths_of (tables_lent tables.old) }
     ensures stored { ReadStored parts text.now settings.old (tables_lent tables.old) (refusal_of result) settings.new (tables_lent tables.new) }
 {
     let fits = (settings.len() == SETTINGS) & (parts < PARTS);

@@ -17,7 +17,6 @@ use lib.ListN.{length}
 use lib.IntN.{ℤ}
 use Rattle.protocol.specs.declared.Settings.{Settings}
 use Rattle.std.specs.Prelude.{Ok, Err, Some, None}
-use Rattle.protocol.specs.declared.Refusal.{Refusal}
 use Rattle.protocol.specs.Refusal.{number}
 use Rattle.protocol.specs.Answers.{Loaded}
 use Rattle.protocol.specs.Basic.{choose, granted, among, first, unless}
@@ -26,6 +25,7 @@ use Rattle.text_format.specs.Text.{Line, text_limit, lines_of, settings_in, no_s
 use Rattle.text_format.specs.Lines.{present, all_lines, settings_of, read_settings, begun_with, begun_answer}
 use Rattle.protocol.proofs.Tests.{first_zero, unless-zero, granted-zero, granted_refused}
 use Rattle.text_lines.specs.declared.header.Begun.{Begun}
+use Rattle.text_lines.specs.declared.header.Disallowed.{Disallowed}
 use Rattle.text_lines.specs.Header.{header_answer, as_begun}
 use Rattle.text_lines.proofs.Looks.{Settled, settled, settled-settings, settled-look, look-missing, look-refused, header_unfound}
 
@@ -154,9 +154,9 @@ module _ (text : List ℕ) where
   unfolding begun_with
   front_missing e z = absurd (omega (arith, ap (λ o. settings_refusal (begun_with o)) (header_unfound text e), no-settings))
 
-  pub begun_refused : (r : Refusal) → number r ≡ look_refusal text → (settings_refusal front ≡ 0 → ⊥) → as_begun (Err r) ≡ begun_answer text
+  pub begun_refused : (d : Disallowed) → number d.refusal ≡ look_refusal text → (settings_refusal front ≡ 0 → ⊥) → as_begun (Err d) ≡ begun_answer text
   unfolding begun_answer
-  begun_refused r e n = look-refused text r e ∙ sym (granted_refused _ _ _ n)
+  begun_refused d e n = look-refused text d.refusal e ∙ sym (granted_refused _ _ _ n)
 
   module _ (b : Begun) (b-is : Some b ≡ header_answer text (read_settings text)) where
     pub front_refused : (settings_refusal b.settings ≡ 0 → ⊥) → settings_refusal front ≡ 0 → ⊥

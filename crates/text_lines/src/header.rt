@@ -3,7 +3,7 @@ ghost use Rattle.std.specs.Prelude.{◌≡◌, ◌≤◌, IfOk};
 ghost use Rattle.protocol.specs.Answers.{as_loaded};
 ghost use Rattle.text_format.specs.Text.{value_limit, narrow_limit, unsigned as unsignedOf, look_answer};
 ghost use Rattle.text_format.specs.Lines.{read_settings, begun_answer};
-ghost use Rattle.text_lines.specs.Header.{header_answer, as_begun, Begins};
+ghost use Rattle.text_lines.specs.Header.{header_answer, place_behind, as_begun, place_of, Begins};
 
 use crate::lines::{all_lines, value_at};
 use protocol::{Number, Refusal, Residue, Settings};
@@ -16,6 +16,21 @@ use text_names::begins_with_names;
 pub struct Begun {
     pub settings: Settings,
     pub next: usize,
+}
+
+// Why the settings that a text begins with are refused, and the place behind them; 0 where it does not begin with settings.
+#[derive(Clone, Copy)]
+pub struct Disallowed {
+    pub refusal: Refusal,
+    pub next: usize,
+}
+
+impl From<Disallowed> for Refusal {
+    ghost from_gives = { λ d r. r ≡ d.refusal };
+
+    fn from(disallowed: Disallowed) -> Refusal {
+        disallowed.refusal
+    }
 }
 
 // A value where a number from 0 to `most` is wanted: any other counts as one past it, which no setting, residue or exponent reaches.
@@ -113,19 +128,40 @@ pub fn read_settings(text: &[u8]) -> Result<Settings, Refusal>
 }
 
 // The settings that a text begins with, where they are allowed, and the place behind them: a caller learns the lengths of its tables by them, and the reader
-// goes on there. Otherwise the text is refused, by the number that a first look gives.
-pub fn allowed_settings(text: &[u8]) -> Result<Begun, Refusal>
+// goes on there. Otherwise the text is refused, by the number that a first look gives; the place is given all the same.
+pub fn allowed_settings(text: &[u8]) -> Result<Begun, Disallowed>
     ensures answer { as_begun result ≡ begun_answer text.now }
+    ensures place { place_of result ≡ place_behind (header_answer text.now (read_settings text.now)) }
     ensures begins { IfOk result (λ b. Begins text.now b.settings b.next) }
 {
     let Some(begun) = read_header(text) else {
-        require(text.len() <= TEXT_LIMIT, Refusal::Long)?;
-        return Err(Refusal::Text);
+        let next = 0;
+        if text.len() > TEXT_LIMIT {
+            return Err(Disallowed {
+                refusal: Refusal::Long,
+                next,
+            });
+        }
+        return Err(Disallowed {
+            refusal: Refusal::Text,
+            next,
+        });
     };
     let Err(refusal) = allow(begun.settings) else {
         return Ok(begun);
     };
-    require(text.len() <= TEXT_LIMIT, Refusal::Long)?;
-    require(all_lines(text, begun.next), Refusal::Text)?;
-    Err(refusal)
+    let next = begun.next;
+    if text.len() > TEXT_LIMIT {
+        return Err(Disallowed {
+            refusal: Refusal::Long,
+            next,
+        });
+    }
+    if !all_lines(text, begun.next) {
+        return Err(Disallowed {
+            refusal: Refusal::Text,
+            next,
+        });
+    }
+    Err(Disallowed { refusal, next })
 }

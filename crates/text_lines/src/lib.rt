@@ -7,7 +7,7 @@ mod lines;
 mod numbers;
 
 pub use header::{
-    Begun, allowed_settings, read_header, read_settings, unsigned_narrow, unsigned_wide,
+    Begun, Disallowed, allowed_settings, read_header, read_settings, unsigned_narrow, unsigned_wide,
 };
 pub use lines::{read_line, value_at};
 pub use numbers::{read_count, read_number};

@@ -1,7 +1,7 @@
 // The line reader.
 ghost use Rattle.std.specs.Prelude.{◌≡◌, drop};
 ghost use Rattle.protocol.specs.Answers.{as_number, as_entry};
-ghost use Rattle.text_format.specs.Text.{limit_of, byte as behindByte, read_line, number_answer, read_number_at, reading};
+ghost use Rattle.text_format.specs.Text.{limit_of, byte as behindByte, plain, read_index, read_line, number_answer, read_number_at, reading};
 ghost use Rattle.text_format.specs.Lines.{present, given_number, read_index_at, line_reading, given_line, read_line_at, all_lines, spot, read_value};
 
 use crate::numbers::{number_within, read_count};
@@ -17,7 +17,8 @@ fn stands(text: &[u8], at: usize, byte: u8) -> bool
 
 // A number without a sign and the space behind it.
 fn read_index(text: &[u8], at: usize) -> Result<Number, Refusal>
-    ensures { as_number result ≡ read_index_at text.now at }
+    ensures answer { as_number result ≡ read_index_at text.now at }
+    ensures numbers { reading (as_number result) ≡ given_number text.now (plain (read_index (drop at text.now))) }
 {
     let Ok(Number { value, next }) = read_count(text, at) else {
         return Err(Refusal::Text);

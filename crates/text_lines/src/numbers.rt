@@ -60,7 +60,8 @@ fn proper_digits(text: &[u8], at: usize) -> bool
 // A number without a sign that is at most `most`. The place may be any number.
 pub fn count_within(most: u64, text: &[u8], at: usize) -> Result<Number, Refusal>
     requires { most ≤ value_limit }
-    ensures { as_number result ≡ read_count_at most text.now at }
+    ensures answer { as_number result ≡ read_count_at most text.now at }
+    ensures numbers { reading (as_number result) ≡ given_number text.now (plain (read_count most (drop at text.now))) }
 {
     if !proper_digits(text, at) {
         return Err(Refusal::Text);
@@ -78,7 +79,8 @@ pub fn count_within(most: u64, text: &[u8], at: usize) -> Result<Number, Refusal
 // A number of a magnitude of at most `most`, which may be negative. The place may be any number.
 pub fn number_within(most: u64, text: &[u8], at: usize) -> Result<Number, Refusal>
     requires { most ≤ value_limit }
-    ensures { as_number result ≡ read_number_at most text.now at }
+    ensures answer { as_number result ≡ read_number_at most text.now at }
+    ensures numbers { reading (as_number result) ≡ given_number text.now (read_number most (drop at text.now)) }
 {
     if at >= text.len() {
         return Err(Refusal::Text);

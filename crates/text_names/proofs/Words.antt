@@ -1,6 +1,7 @@
 -- Bytes as one number, and what a text begins with.
 --
 --   word-cons      two words are equal exactly when their first bytes are and what the others make
+--   take_places    the first n of a list, place by place
 --   begins-word    a text begins with bytes exactly when its word of so many bytes is theirs, for any number of bytes
 --   begins-parts   bytes in two parts are looked for one part after the other
 --   begins-short   a shorter text does not begin with them
@@ -8,12 +9,13 @@
 use mathlib.Core.Path.{◌≡◌, refl, sym, ap, ◌∙◌}
 use mathlib.Core.Bool.{Bool, true, false, ◌&&◌, and_assoc, and-false}
 use mathlib.Core.List.{List, [], ◌∷◌, ◌++◌}
-use Prim.Native.Nat.{ℕ, suc, ◌+◌, ◌*◌, ◌≤◌, ◌<◌}
+use Prim.Native.Nat.{ℕ, zero, suc, ◌+◌, ◌*◌, ◌≤◌, ◌<◌}
 use native.Mathlib.Omega.{arith}
 use borrow.Author.Tests.{eq-eqb, ne_eqb, eqb-true, eqb-false}
 use lib.Dec.{eqb}
 use lib.ListN.{length, get_or, take, drop}
 use Rattle.std.specs.Cmp.Lexicographic.{pointwise}
+use Rattle.protocol.specs.Basic.{tabulate}
 use Rattle.text_format.specs.Text.{begins}
 use Rattle.text_names.specs.Words.{word}
 
@@ -36,6 +38,12 @@ module _ (b c x y : ℕ) (hb : b < 256) (hc : c < 256) where
 
   pub word-cons : eqb (b + 256 * x) (c + 256 * y) ≡ (eqb b c && eqb x y)
   word-cons = by_tests (eqb b c) (eqb x y) refl refl
+
+pub take_places : (n : ℕ) (l : List ℕ) → n ≤ length l → take n l ≡ tabulate n (λ i. get_or l i 0)
+unfolding tabulate
+take_places zero l h = refl
+take_places (suc n) [] h = absurd (omega (arith, h))
+take_places (suc n) (a ∷ l) h = ap (λ (t : List ℕ). a ∷ t) (take_places n l (omega (arith, h)))
 
 pub begins-word : (cs text : List ℕ) → length cs ≤ length text → Bytes cs → ((i : ℕ) → get_or text i 0 < 256)
     → begins cs text ≡ eqb (word (take (length cs) text)) (word cs)

@@ -37,14 +37,23 @@ impl Tables<'_> {
     pub fn lengths(&self) -> [usize; TABLES]
         ensures { result ≡ lengths_of (tables_read self.now) }
     {
+        let Tables {
+            key,
+            message,
+            commitment,
+            rounds,
+            challenges,
+            last,
+            claims,
+        } = *self;
         [
-            self.key.len(),
-            self.message.len(),
-            self.commitment.len(),
-            self.rounds.len(),
-            self.challenges.len(),
-            self.last.len(),
-            self.claims.len(),
+            key.len(),
+            message.len(),
+            commitment.len(),
+            rounds.len(),
+            challenges.len(),
+            last.len(),
+            claims.len(),
         ]
     }
 }

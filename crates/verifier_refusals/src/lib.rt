@@ -73,5 +73,5 @@ pub fn lent_below(settings: Settings, step: usize, a: &[Residue]) -> bool
 pub fn rows_below(settings: Settings, a: &[Residue]) -> bool
     ensures { Provided (settings_refusal settings ≡ 0) (Provided (length a.now ≡ rows_width) (result ≡ residue_rows settings a.now)) }
 {
-    lent_below(settings, WIDTH, a)
+    tests::rows_below(settings.modulus, settings.degree, settings.rows, a)
 }

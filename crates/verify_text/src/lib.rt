@@ -107,7 +107,7 @@ fn show_verdict(answer: Result<Verdict, Refusal>, out: &mut [u8]) -> usize
         Ok(Verdict::Accepted) => table_writer::show(b"accepted\n", out),
         Ok(Verdict::Rejected) => table_writer::show(b"rejected\n", out),
         Ok(Verdict::Holds) => 0,
-        Err(refusal) => table_writer::show_refusal(refusal, out),
+        Err(refusal) => table_writer::show_refusal(refusal.number(), out),
     }
 }
 

@@ -22,8 +22,8 @@ returns-in_err-begun c =
     let text = c.args.text.now in
     let p = err_from_is_err_and c.from_residual.result c.from_residual.ensures.1 in
     let e = c.in_err-begun.field-0.0 in
-    let some : number e ≡ 0 → ⊥ = λ z. absurd (omega (arith, positive e, z)) in
-    rw (p.1, p.2) (prove-refused text c.args.out.now (number e) some
+    let some : number e.refusal ≡ 0 → ⊥ = λ z. absurd (omega (arith, positive e.refusal, z)) in
+    rw (p.1, p.2) (prove-refused text c.args.out.now (number e.refusal) some
     (look-refusal text (as_begun (Err e)) ((begun text (as_begun (Err e)) c.in_err-begun.ensures.answer).refused some) prove_reads some))
 
 pub slice_bounds-challenges-end : goal.slice_bounds-challenges-end

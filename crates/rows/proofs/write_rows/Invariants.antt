@@ -1,9 +1,9 @@
--- The loop keeps: the first k negatives are in place.
-use Rattle.std.proofs.Common.{◌≡◌, get_or, pos, neg_ℤ}
-use Rattle.protocol.specs.Element.{modulo}
-use Rattle.residues.specs.Lists.{filled}
-use Rattle.rows.specs.Rows.{Residues}
+-- The loop keeps: the first k numbers of each row are in place.
+use Rattle.std.proofs.Common.{◌≡◌, length}
+use Rattle.protocol.specs.Element.{residue}
+use Rattle.rows.specs.Rows.{turned, Residues}
+use Rattle.rows.proofs.ThreeRows.{ThreeRows}
 use Rattle.rows.proofs.write_rows.Given as goal
 
 abbrev pub invariant-loop-k : goal.invariant-loop-k
-invariant-loop-k l = Residues l.q l.d l.a → l.second ≡ filled (λ j. modulo l.q (neg_ℤ (pos (get_or l.a j 0)))) l.k l.initial.second
+invariant-loop-k l = (Residues l.q l.d l.a → ThreeRows (turned l.q l.d (residue l.a)) l.d l.k l.initial.y l.y) × (length l.y ≡ length l.initial.y)

@@ -17,5 +17,5 @@ take_put_mid_more a k n xs ys within fits =
 pub loop-done-preserved : goal.loop-done-preserved
 loop-done-preserved g c =
     let within = c.loop-done.invariant.0 in
-    let joined = take_put_mid_more c.loop-done.done (length c.loop-done.text - c.loop-done.done) c.in_ok-more.more c.loop-done.text c.read.new.buf within c.in_ok-more.ensures.bound.0 in
-    (search rules, subst (Consumes _ _) (sym joined) (Consumes-trans _ _ _ _ _ c.loop-done.invariant.1 c.in_ok-more.ensures.bytes.0))
+    let joined = take_put_mid_more c.loop-done.done (length c.loop-done.text - c.loop-done.done) c.in-Ok.more c.loop-done.text c.read.new.buf within c.in-Ok.ensures.bound.0 in
+    (search rules, subst (Consumes _ _) (sym joined) (Consumes-trans _ _ _ _ _ c.loop-done.invariant.1 c.in-Ok.ensures.bytes.0))

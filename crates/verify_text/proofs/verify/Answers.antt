@@ -23,7 +23,7 @@ returns-in_err-settings-clause-answer c =
     let text = c.args.text.now in
     let p = err_from_is_err_and c.from_residual.result c.from_residual.ensures.1 in
     let e = c.in_err-settings.field-0.0 in
-    let some : number e ≡ 0 → ⊥ = λ z. absurd (omega (arith, positive e, z)) in
+    let some : number e.refusal ≡ 0 → ⊥ = λ z. absurd (omega (arith, positive e.refusal, z)) in
     rw (p.1, p.2) (verify-stops text (as_begun (Err e)) ((begun text (as_begun (Err e)) c.in_err-settings.ensures.answer).refused some) some)
 
 pub returns-in_err-settings-clause-numbers : goal.returns-in_err-settings-clause-numbers

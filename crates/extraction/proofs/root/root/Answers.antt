@@ -6,7 +6,7 @@ use Rattle.protocol.specs.Settings.{size, cells}
 use Rattle.protocol.specs.Tree.{root_vector}
 use Rattle.protocol.proofs.Inputs.{valid-settings}
 use Rattle.extraction.specs.Nodes.{vector_room, Extractable}
-use Rattle.extraction.proofs.Workspace.{kept_long, copied, root-room, root_at}
+use Rattle.extraction.proofs.Workspace.{kept_long, copied, stored, root-room, root_at}
 use Rattle.extraction.proofs.root.root.Goals as goal
 
 -- the room for a vector, where the numbers of cells are so many
@@ -32,21 +32,21 @@ node-requires-clause-at_node c =
 pub offset_bounds-ws-cells : goal.offset_bounds-ws-cells
 offset_bounds-ws-cells c = omega (arith, room _ _ _ c.requires.extractable c.cells-cells.result (c.cells-cells.ensures (valid-settings c.args.settings c.requires.extractable.valid)))
 
-pub slice_bounds-copy_from_slice-end : goal.slice_bounds-copy_from_slice-end
-slice_bounds-copy_from_slice-end c =
+pub slice_bounds-store-end : goal.slice_bounds-store-end
+slice_bounds-store-end c =
     let fits = room _ _ _ c.requires.extractable c.cells-cells.result (c.cells-cells.ensures (valid-settings c.args.settings c.requires.extractable.valid)) in
     let lent : length c.node.new.ws ≡ 2 * c.cells-cells.result = c.node.auto.ws ∙ length-take-le _ c.workspace-ws.result (omega (arith, fits, c.workspace-ws.ensures)) in
     omega (arith, fits, kept_long c.cells-cells.result c.node.new.ws c.workspace-ws.result fits lent c.workspace-ws.ensures)
 
-pub copy_from_slice-requires : goal.copy_from_slice-requires
-copy_from_slice-requires c =
+pub store-requires : goal.store-requires
+store-requires c =
     let ok = valid-settings c.args.settings c.requires.extractable.valid in
     let n = c.cells-cells.result in
     let fits = room _ _ _ c.requires.extractable n (c.cells-cells.ensures ok) in
     let lent : length c.node.new.ws ≡ 2 * n = c.node.auto.ws ∙ length-take-le _ c.workspace-ws.result (omega (arith, fits, c.workspace-ws.ensures)) in
     let w : length c.args.w.now ≡ n = c.requires.w_len ∙ sym (c.cells-cells.ensures ok) in
     let half : length (drop n c.node.new.ws) ≡ n = length-drop n c.node.new.ws ∙ omega (arith, lent) in
-    w ∙ sym (ap length (copied n c.node.new.ws c.workspace-ws.result fits lent c.workspace-ws.ensures) ∙ half)
+    (omega (arith, ap length (copied n c.node.new.ws c.workspace-ws.result fits lent c.workspace-ws.ensures), half), omega (arith, w))
 
 pub returns : goal.returns
 unfolding root_vector cells size
@@ -55,7 +55,9 @@ returns c =
     let n = c.cells-cells.result in
     let fits = room _ _ _ c.requires.extractable n (c.cells-cells.ensures ok) in
     let lent : length c.node.new.ws ≡ 2 * n = c.node.auto.ws ∙ length-take-le _ c.workspace-ws.result (omega (arith, fits, c.workspace-ws.ensures)) in
-    c.copy_from_slice.ensures.after
-    ∙ copied n c.node.new.ws c.workspace-ws.result fits lent c.workspace-ws.ensures
+    let w : length c.args.w.now ≡ n = c.requires.w_len ∙ sym (c.cells-cells.ensures ok) in
+    let half : length (drop n c.node.new.ws) ≡ n = length-drop n c.node.new.ws ∙ omega (arith, lent) in
+    c.store.ensures
+    ∙ stored n _ (drop n c.node.new.ws) c.args.w.now (copied n c.node.new.ws c.workspace-ws.result fits lent c.workspace-ws.ensures) half w
     ∙ ap (λ m. drop m c.node.new.ws) (c.cells-cells.ensures ok)
     ∙ c.node.ensures

@@ -1,6 +1,9 @@
-use Rattle.std.proofs.Common.{rules, ltb}
-use Rattle.protocol.proofs.Chains.{all_is}
+use Rattle.std.proofs.Common.{arith, rules}
+use Rattle.ranges.proofs.Scan.{asked_goes_on, asked_ends}
 use Rattle.ranges.proofs.tests.all_below.Goals as goal
 
+pub loop-x-preserved : goal.loop-x-preserved
+loop-x-preserved c = let l = c.loop-x in asked_goes_on _ _ 0 l.x-index l.good l.invariant (omega arith) (search rules)
+
 pub returns : goal.returns
-returns c = all_is (λ x. ltb x c.args.limit) _ 0 (search rules)
+returns c = let l = c.loop-x in asked_ends _ _ 0 l.x-index l.good l.invariant (omega arith)

@@ -1,10 +1,6 @@
-use Rattle.std.proofs.Common.{rules, ltb, ◌^◌, arith}
-use Rattle.protocol.proofs.Chains.{all_is}
+use Rattle.std.proofs.Common.{ltb, ◌^◌, arith}
 use Rattle.ranges.proofs.Scan.{asked_goes_on, asked_ends}
 use Rattle.ranges.proofs.tests.all_below_wide.Goals as goal
-
-pub returns-then-limit-gt-SIGN : goal.returns-then-limit-gt-SIGN
-returns-then-limit-gt-SIGN c = all_is (λ x. ltb x c.args.limit) _ 0 (search rules)
 
 pub loop-x-preserved : goal.loop-x-preserved
 loop-x-preserved c = let l = c.loop-x in asked_goes_on _ _ 0 l.x-index (ltb l.signs (2 ^ 63)) l.invariant (omega arith) (c.with_signs-signs.ensures c.if-limit-gt-SIGN.false)

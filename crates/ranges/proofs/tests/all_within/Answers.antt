@@ -1,4 +1,4 @@
-use Rattle.std.proofs.Common.{◌≡◌, ◌≤◌, ◌&&◌, Bool, List, length, drop, sym, ap, ◌∙◌, arith, drop_of_length-le}
+use Rattle.std.proofs.Common.{◌&&◌, sym, ap, ◌∙◌, arith, drop_of_length-le}
 use Rattle.protocol.specs.Basic.{all, within}
 use Rattle.ranges.proofs.Scan.{asked_goes_on, and-true}
 use Rattle.ranges.proofs.tests.all_within.Goals as goal

@@ -10,5 +10,5 @@ pub returns : goal.returns
 unfolding refused_line field bytes
 returns c =
     shown_as
-    (c.as_slice.ensures ∙ c.put_field.ensures ∙ (λ j. (c.extend.ensures ∙ ap (λ t. t ++ bytes "refused ") c.new-line.ensures) j ++ field ((c.from.ensures ∙ c.number.ensures) j) 10))
+    (c.as_slice.ensures ∙ c.put_field.ensures ∙ (λ j. (c.extend.ensures ∙ ap (λ t. t ++ bytes "refused ") c.new-line.ensures) j ++ field (c.from.ensures j) 10))
     c.show.ensures

@@ -25,7 +25,7 @@ unfolding read_line_at line_answer
 returns-in_default c =
     let a = c.args in
     let t = a.text.now in
-    let missed = uncolumned t a.at _ (sym c.read_index.ensures ∙ ap as_number c.in_default.is) in
+    let missed = uncolumned t a.at _ (sym c.read_index.ensures.answer ∙ ap as_number c.in_default.is) in
     let b = line_both t a.at _ (sym (ap (line_answer t) (line-columns (drop a.at t) ∙ bind-none _ line₁ missed))) in
     record { answer = b.0; numbers = b.1 }
 
@@ -35,8 +35,8 @@ returns-in_default-read_index c =
     let a = c.args in
     let t = a.text.now in
     let r₁ = c.in-Ok.field-0 in
-    let c₁ = column t a.at r₁.value r₁.next (sym c.read_index.ensures ∙ ap as_number c.in-Ok.is) in
-    let missed = uncolumned t r₁.next _ (sym c.read_index-2.ensures ∙ ap as_number c.in_default-read_index.is) in
+    let c₁ = column t a.at r₁.value r₁.next (sym c.read_index.ensures.answer ∙ ap as_number c.in-Ok.is) in
+    let missed = uncolumned t r₁.next _ (sym c.read_index-2.ensures.answer ∙ ap as_number c.in_default-read_index.is) in
     let b = line_both t a.at _ (sym (ap (line_answer t) (left₁ t a.at c₁.number r₁.next c₁.found ∙ bind-none _ (line₂ c₁.number) missed))) in
     record { answer = b.0; numbers = b.1 }
 
@@ -47,9 +47,9 @@ returns-in_default-read_index-2 c =
     let t = a.text.now in
     let r₁ = c.in-Ok.field-0 in
     let r₂ = c.in-Ok-read_index.field-0 in
-    let c₁ = column t a.at r₁.value r₁.next (sym c.read_index.ensures ∙ ap as_number c.in-Ok.is) in
-    let c₂ = column t r₁.next r₂.value r₂.next (sym c.read_index-2.ensures ∙ ap as_number c.in-Ok-read_index.is) in
-    let missed = uncolumned t r₂.next _ (sym c.read_index-3.ensures ∙ ap as_number c.in_default-read_index-2.is) in
+    let c₁ = column t a.at r₁.value r₁.next (sym c.read_index.ensures.answer ∙ ap as_number c.in-Ok.is) in
+    let c₂ = column t r₁.next r₂.value r₂.next (sym c.read_index-2.ensures.answer ∙ ap as_number c.in-Ok-read_index.is) in
+    let missed = uncolumned t r₂.next _ (sym c.read_index-3.ensures.answer ∙ ap as_number c.in_default-read_index-2.is) in
     let b = line_both t a.at _ (sym (ap (line_answer t) (left₂ t a.at c₁.number r₁.next c₁.found c₂.number r₂.next c₂.found ∙ bind-none _ (line₃ c₁.number c₂.number) missed))) in
     record { answer = b.0; numbers = b.1 }
 
@@ -57,7 +57,7 @@ pub overflow_cast-part : goal.overflow_cast-part
 overflow_cast-part c =
     let a = c.args in
     let r₁ = c.in-Ok.field-0 in
-    let c₁ = column a.text.now a.at r₁.value r₁.next (sym c.read_index.ensures ∙ ap as_number c.in-Ok.is) in
+    let c₁ = column a.text.now a.at r₁.value r₁.next (sym c.read_index.ensures.answer ∙ ap as_number c.in-Ok.is) in
     narrow-cast _ c₁.number c₁.value_is (small _ _ _ _ c₁)
 
 pub returns-in_default-value_of : goal.returns-in_default-value_of
@@ -68,9 +68,9 @@ returns-in_default-value_of c =
     let r₁ = c.in-Ok.field-0 in
     let r₂ = c.in-Ok-read_index.field-0 in
     let r₃ = c.in-Ok-read_index-2.field-0 in
-    let c₁ = column t a.at r₁.value r₁.next (sym c.read_index.ensures ∙ ap as_number c.in-Ok.is) in
-    let c₂ = column t r₁.next r₂.value r₂.next (sym c.read_index-2.ensures ∙ ap as_number c.in-Ok-read_index.is) in
-    let c₃ = column t r₂.next r₃.value r₃.next (sym c.read_index-3.ensures ∙ ap as_number c.in-Ok-read_index-2.is) in
+    let c₁ = column t a.at r₁.value r₁.next (sym c.read_index.ensures.answer ∙ ap as_number c.in-Ok.is) in
+    let c₂ = column t r₁.next r₂.value r₂.next (sym c.read_index-2.ensures.answer ∙ ap as_number c.in-Ok-read_index.is) in
+    let c₃ = column t r₂.next r₃.value r₃.next (sym c.read_index-3.ensures.answer ∙ ap as_number c.in-Ok-read_index-2.is) in
     let missed = unnumbered _ t r₃.next _ (value-at t r₃.next _ c₁.number _ (narrowed t a.at r₁.value r₁.next c₁) c.value_of.ensures ∙ ap as_number c.in_default-value_of.is) in
     let b = line_both t a.at _ (sym (ap (line_answer t)
     (left₃ t a.at c₁.number r₁.next c₁.found c₂.number r₂.next c₂.found c₃.number r₃.next c₃.found ∙ bind-none _ (line₄ c₁.number c₂.number c₃.number) missed))) in
@@ -85,9 +85,9 @@ returns-then-not-stands c =
     let r₂ = c.in-Ok-read_index.field-0 in
     let r₃ = c.in-Ok-read_index-2.field-0 in
     let r₄ = c.in-Ok-value_of.field-0 in
-    let c₁ = column t a.at r₁.value r₁.next (sym c.read_index.ensures ∙ ap as_number c.in-Ok.is) in
-    let c₂ = column t r₁.next r₂.value r₂.next (sym c.read_index-2.ensures ∙ ap as_number c.in-Ok-read_index.is) in
-    let c₃ = column t r₂.next r₃.value r₃.next (sym c.read_index-3.ensures ∙ ap as_number c.in-Ok-read_index-2.is) in
+    let c₁ = column t a.at r₁.value r₁.next (sym c.read_index.ensures.answer ∙ ap as_number c.in-Ok.is) in
+    let c₂ = column t r₁.next r₂.value r₂.next (sym c.read_index-2.ensures.answer ∙ ap as_number c.in-Ok-read_index.is) in
+    let c₃ = column t r₂.next r₃.value r₃.next (sym c.read_index-3.ensures.answer ∙ ap as_number c.in-Ok-read_index-2.is) in
     let f₄ = numbered _ t r₃.next r₄.value r₄.next (value-at t r₃.next _ c₁.number _ (narrowed t a.at r₁.value r₁.next c₁) c.value_of.ensures ∙ ap as_number c.in-Ok-value_of.is) in
     let missed : byte line_feed (drop r₄.next t) ≡ none = present-none _ (search rules) in
     let b = line_both t a.at _ (sym (ap (line_answer t)
@@ -98,14 +98,14 @@ pub overflow_cast-result : goal.overflow_cast-result
 overflow_cast-result c =
     let r₁ = c.in-Ok.field-0 in
     let r₂ = c.in-Ok-read_index.field-0 in
-    let c₂ = column c.args.text.now r₁.next r₂.value r₂.next (sym c.read_index-2.ensures ∙ ap as_number c.in-Ok-read_index.is) in
+    let c₂ = column c.args.text.now r₁.next r₂.value r₂.next (sym c.read_index-2.ensures.answer ∙ ap as_number c.in-Ok-read_index.is) in
     narrow-cast _ c₂.number c₂.value_is (small _ _ _ _ c₂)
 
 pub overflow_cast-result-2 : goal.overflow_cast-result-2
 overflow_cast-result-2 c =
     let r₂ = c.in-Ok-read_index.field-0 in
     let r₃ = c.in-Ok-read_index-2.field-0 in
-    let c₃ = column c.args.text.now r₂.next r₃.value r₃.next (sym c.read_index-3.ensures ∙ ap as_number c.in-Ok-read_index-2.is) in
+    let c₃ = column c.args.text.now r₂.next r₃.value r₃.next (sym c.read_index-3.ensures.answer ∙ ap as_number c.in-Ok-read_index-2.is) in
     narrow-cast _ c₃.number c₃.value_is (small _ _ _ _ c₃)
 
 pub overflow_add-result : goal.overflow_add-result
@@ -120,9 +120,9 @@ returns c =
     let r₂ = c.in-Ok-read_index.field-0 in
     let r₃ = c.in-Ok-read_index-2.field-0 in
     let r₄ = c.in-Ok-value_of.field-0 in
-    let c₁ = column t a.at r₁.value r₁.next (sym c.read_index.ensures ∙ ap as_number c.in-Ok.is) in
-    let c₂ = column t r₁.next r₂.value r₂.next (sym c.read_index-2.ensures ∙ ap as_number c.in-Ok-read_index.is) in
-    let c₃ = column t r₂.next r₃.value r₃.next (sym c.read_index-3.ensures ∙ ap as_number c.in-Ok-read_index-2.is) in
+    let c₁ = column t a.at r₁.value r₁.next (sym c.read_index.ensures.answer ∙ ap as_number c.in-Ok.is) in
+    let c₂ = column t r₁.next r₂.value r₂.next (sym c.read_index-2.ensures.answer ∙ ap as_number c.in-Ok-read_index.is) in
+    let c₃ = column t r₂.next r₃.value r₃.next (sym c.read_index-3.ensures.answer ∙ ap as_number c.in-Ok-read_index-2.is) in
     let f₄ = numbered _ t r₃.next r₄.value r₄.next (value-at t r₃.next _ c₁.number _ (narrowed t a.at r₁.value r₁.next c₁) c.value_of.ensures ∙ ap as_number c.in-Ok-value_of.is) in
     let stands : present (byte line_feed (drop r₄.next t)) ≡ true = search rules in
     let on : r₄.next + 1 ≤ length t = omega (arith, byte-place line_feed t r₄.next stands) in

@@ -8,7 +8,7 @@ use Rattle.text_format.specs.Text.{value_limit, digit_run, plain, number_answer,
 use Rattle.text_lines.specs.declared.numbers.Run.{Run}
 use Rattle.text_lines.specs.Digits.{past_limit, kept_run, run_answer}
 use Rattle.text_format.proofs.NumeralLaws.{proper_first}
-use Rattle.text_lines.proofs.Counts.{count_improper, count_large, count-read}
+use Rattle.text_lines.proofs.Counts.{count_improper, count_large, count-read, count_both}
 use Rattle.text_lines.proofs.numbers.count_within.Goals as goal
 
 module _ (text : List ℕ) (at most : ℕ) (h : most ≤ value_limit) (run : Run) (e : kept_run run ≡ run_answer text (digit_run 0 (drop at text))) where
@@ -34,7 +34,8 @@ pub returns-then-not-proper_digits : goal.returns-then-not-proper_digits
 unfolding read_count_at number_answer plain bind
 returns-then-not-proper_digits c =
     let a = c.args in
-    sym (ap (λ o. number_answer a.text.now (plain o)) (count_improper a.most (drop a.at a.text.now) (search rules)))
+    let b = count_both a.most a.text.now a.at _ (sym (ap (λ o. number_answer a.text.now (plain o)) (count_improper a.most (drop a.at a.text.now) (search rules)))) in
+    record { answer = b.0; numbers = b.1 }
 
 pub digit_run-run-requires : goal.digit_run-run-requires
 digit_run-run-requires c = proper_first _ (search rules)
@@ -44,7 +45,8 @@ unfolding read_count_at number_answer plain bind
 returns-then-run-most c =
     let a = c.args in
     let over = large a.text.now a.at a.most c.requires c.digit_run-run.result c.digit_run-run.ensures (omega arith) in
-    sym (ap (λ o. number_answer a.text.now (plain o)) (count_large a.most (drop a.at a.text.now) (search rules) over))
+    let b = count_both a.most a.text.now a.at _ (sym (ap (λ o. number_answer a.text.now (plain o)) (count_large a.most (drop a.at a.text.now) (search rules) over))) in
+    record { answer = b.0; numbers = b.1 }
 
 pub overflow_cast-result : goal.overflow_cast-result
 unfolding value_limit
@@ -58,6 +60,8 @@ returns c =
     let exact = small a.text.now a.at a.most c.requires run c.digit_run-run.ensures (omega arith) in
     let short = few a.text.now a.at a.most c.requires run c.digit_run-run.ensures in
     let kept : (digit_run 0 (drop a.at a.text.now)).0 ≤ a.most = omega (arith, exact) in
-    (λ j. Value (to_z_pos w64 {n = run.value} (omega (arith, short)) j) (behind a.text.now a.at a.most c.requires run c.digit_run-run.ensures j))
+    let b = count_both a.most a.text.now a.at _
+    ((λ j. Value (to_z_pos w64 {n = run.value} (omega (arith, short)) j) (behind a.text.now a.at a.most c.requires run c.digit_run-run.ensures j))
     ∙ (λ j. Value (pos (exact j)) (length a.text.now - length (digit_run 0 (drop a.at a.text.now)).1))
-    ∙ sym (ap (λ o. number_answer a.text.now (plain o)) (count-read a.most (drop a.at a.text.now) (search rules) kept))
+    ∙ sym (ap (λ o. number_answer a.text.now (plain o)) (count-read a.most (drop a.at a.text.now) (search rules) kept))) in
+    record { answer = b.0; numbers = b.1 }

@@ -10,4 +10,4 @@ count_within-requires c = omega arith
 
 pub returns : goal.returns
 unfolding narrow_limit
-returns c = let b = count_both narrow_limit c.args.text.now c.args.at _ (c.count_within.ensures ∙ ap (λ m. read_count_at m c.args.text.now c.args.at) c.from.ensures) in record { answer = b.0; numbers = b.1 }
+returns c = let b = count_both narrow_limit c.args.text.now c.args.at _ (c.count_within.ensures.answer ∙ ap (λ m. read_count_at m c.args.text.now c.args.at) c.from.ensures) in record { answer = b.0; numbers = b.1 }

@@ -10,4 +10,4 @@ number_within-requires c = omega arith
 
 pub returns : goal.returns
 unfolding value_limit
-returns c = let b = number_both value_limit c.args.text.now c.args.at _ c.number_within.ensures in record { answer = b.0; numbers = b.1 }
+returns c = let b = number_both value_limit c.args.text.now c.args.at _ c.number_within.ensures.answer in record { answer = b.0; numbers = b.1 }

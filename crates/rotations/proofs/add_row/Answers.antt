@@ -1,7 +1,7 @@
 use Rattle.std.proofs.Common.{◌<◌, length, arith}
 use Rattle.residues.proofs.Fill.{filled_none}
 use Rattle.residues.proofs.Adding.{filled-all, row_turn}
-use Rattle.residues.proofs.sums.add_row.Goals as goal
+use Rattle.rotations.proofs.add_row.Goals as goal
 
 pub loop-k-init : goal.loop-k-init
 loop-k-init g c = λ _. filled_none _ _

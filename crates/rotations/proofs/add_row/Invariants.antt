@@ -2,7 +2,7 @@
 use Rattle.std.proofs.Common.{◌≡◌}
 use Rattle.residues.specs.Lists.{filled}
 use Rattle.residues.proofs.Adding.{both, Allowed}
-use Rattle.residues.proofs.sums.add_row.Given as goal
+use Rattle.rotations.proofs.add_row.Given as goal
 
 abbrev pub invariant-loop-k : goal.invariant-loop-k
 invariant-loop-k g l =
