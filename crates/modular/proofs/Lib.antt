@@ -1,2 +1,3 @@
+pub mod Quarters
 pub mod Shares
 pub mod Halving

@@ -50,11 +50,18 @@ pub fn prepare(q: u64, y: u64) -> Factor
     }
 }
 
-// x·y/2^64, rounded down: the upper word of the product.
+// x·y/2^64, rounded down: each number is cut into halves of 32 bits, so that a product of halves fits a word, and these products are added column by column with
+// their carries. The compiler makes one multiplication of it.
 fn upper(x: u64, y: u64) -> u64
     ensures { result ≡ x * y / 2 ^ 64 }
 {
-    x.carrying_mul(y, 0).1
+    let x0 = x % 4294967296;
+    let x1 = x / 4294967296;
+    let y0 = y % 4294967296;
+    let y1 = y / 4294967296;
+    let middle = x1 * y0 + x0 * y0 / 4294967296;
+    let next = x0 * y1 + middle % 4294967296;
+    x1 * y1 + middle / 4294967296 + next / 4294967296
 }
 
 // x·y modulo q, y being the prepared factor and x any number: the estimate of the quotient is at most 1 too small.
