@@ -5,17 +5,17 @@
 --   begins-word    a text begins with bytes exactly when its word of so many bytes is theirs, for any number of bytes
 --   begins-parts   bytes in two parts are looked for one part after the other
 --   begins-short   a shorter text does not begin with them
---   begins-starts  what a text begins with is what its first bytes are, one by one
+--   begins-every   a text that is long enough begins with bytes exactly when each of them stands at its place
 use mathlib.Core.Path.{◌≡◌, refl, sym, ap, ◌∙◌}
-use mathlib.Core.Bool.{Bool, true, false, ◌&&◌, and_assoc, and-false}
+use mathlib.Core.Bool.{Bool, true, false, ◌&&◌, and_assoc, and-false, false≢true}
 use mathlib.Core.List.{List, [], ◌∷◌, ◌++◌}
 use Prim.Native.Nat.{ℕ, zero, suc, ◌+◌, ◌*◌, ◌≤◌, ◌<◌}
 use native.Mathlib.Omega.{arith}
 use borrow.Author.Tests.{eq-eqb, ne_eqb, eqb-true, eqb-false}
 use lib.Dec.{eqb}
 use lib.ListN.{length, get_or, take, drop}
-use Rattle.std.specs.Cmp.Lexicographic.{pointwise}
-use Rattle.protocol.specs.Basic.{tabulate}
+use Rattle.protocol.specs.Basic.{every, tabulate}
+use Rattle.protocol.proofs.Tests.{same_test, every_at, every-intro, and_intro, and_split}
 use Rattle.text_format.specs.Text.{begins}
 use Rattle.text_names.specs.Words.{word}
 
@@ -66,15 +66,21 @@ begins-short [] text l = absurd (omega (arith, l))
 begins-short (c ∷ cs) [] l = refl
 begins-short (c ∷ cs) (b ∷ bs) l = ap (λ t. eqb b c && t) (begins-short cs bs (omega (arith, l))) ∙ and-false (eqb b c)
 
-eqb-swapped : (b c : ℕ) → eqb b c ≡ eqb c b
-eqb-swapped b c = by_test (eqb c b) refl
-  where
-    by_test : (t : Bool) → eqb c b ≡ t → eqb b c ≡ t
-    by_test true e = eq-eqb b c (sym (eqb-true c b e))
-    by_test false e = ne_eqb b c (λ w. eqb-false c b e (sym w))
-
-pub begins-starts : (cs text : List ℕ) → begins cs text ≡ pointwise eqb cs (take (length cs) text)
+begins-intro : (cs text : List ℕ) → length cs ≤ length text → ((i : ℕ) → i < length cs → get_or text i 0 ≡ get_or cs i 0) → begins cs text ≡ true
 unfolding begins
-begins-starts [] text = refl
-begins-starts (c ∷ cs) [] = refl
-begins-starts (c ∷ cs) (b ∷ bs) = λ j. eqb-swapped b c j && begins-starts cs bs j
+begins-intro [] text l same = refl
+begins-intro (c ∷ cs) [] l same = absurd (omega (arith, l))
+begins-intro (c ∷ cs) (b ∷ bs) l same =
+    and_intro {a = eqb b c} {b = begins cs bs} (eq-eqb b c (same 0 (omega arith))) (begins-intro cs bs (omega (arith, l)) (λ i h. same (suc i) (omega (arith, h))))
+
+begins_at : (cs text : List ℕ) → begins cs text ≡ true → (i : ℕ) → i < length cs → get_or text i 0 ≡ get_or cs i 0
+unfolding begins
+begins_at [] text t i h = absurd (omega (arith, h))
+begins_at (c ∷ cs) [] t i h = absurd (false≢true t)
+begins_at (c ∷ cs) (b ∷ bs) t zero h = eqb-true b c (and_split {a = eqb b c} {b = begins cs bs} t).0
+begins_at (c ∷ cs) (b ∷ bs) t (suc i) h = begins_at cs bs (and_split {a = eqb b c} {b = begins cs bs} t).1 i (omega (arith, h))
+
+pub begins-every : (cs text : List ℕ) → length cs ≤ length text → every (length cs) (λ i. eqb (get_or text i 0) (get_or cs i 0)) ≡ begins cs text
+begins-every cs text l = same_test
+    (λ t. begins-intro cs text l (λ i h. eqb-true _ _ (every_at _ _ t i h)))
+    (λ t. every-intro (λ i h. eq-eqb _ _ (begins_at cs text t i h)))

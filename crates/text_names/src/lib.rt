@@ -2,7 +2,7 @@
 #![tactic(auto)]
 
 ghost use Rattle.std.specs.Prelude.{◌≡◌, ◌≤◌, length, take};
-ghost use Rattle.text_format.specs.Text.{begins_with_names};
+ghost use Rattle.text_format.specs.Text.{begins as beginsWith, begins_with_names};
 ghost use Rattle.text_names.specs.Words.{word};
 
 // The line has 22 bytes: those of "part ite" and of "m place " as numbers, the first byte the lowest, and then "value" and the line feed.
@@ -22,6 +22,16 @@ fn first_word(text: &[u8]) -> u64
     ])
 }
 
+// Does a text begin with the given bytes, one by one.
+fn begins(text: &[u8], with: &[u8]) -> bool
+    ensures { result ≡ beginsWith with.now text.now }
+{
+    if text.len() < with.len() {
+        return false;
+    }
+    (0..with.len()).all(|i| text[i] == with[i])
+}
+
 // Does a text begin with the names line. A text that ends inside it has no two words to read.
 pub fn begins_with_names(text: &[u8]) -> bool
     ensures { result ≡ begins_with_names text.now }
@@ -35,5 +45,5 @@ pub fn begins_with_names(text: &[u8]) -> bool
     if first_word(&text[8..]) != M_PLACE {
         return false;
     }
-    text[16..].starts_with(b"value\n")
+    begins(&text[16..], b"value\n")
 }

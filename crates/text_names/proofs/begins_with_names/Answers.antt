@@ -4,7 +4,6 @@ use borrow.Author.Tests.{eq-eqb, ne_eqb}
 use Rattle.text_format.specs.Text.{bytes, begins, begins_with_names}
 use Rattle.text_names.specs.Words.{word}
 use Rattle.text_names.proofs.Names.{one, two, six, from, names-words, names-short}
-use Rattle.text_names.proofs.Words.{begins-starts}
 use Rattle.text_names.proofs.begins_with_names.Goals as goal
 
 -- the text is long enough: two tests and the six bytes are left
@@ -29,7 +28,6 @@ returns-then-first_word-ne-M_PLACE c =
 pub returns : goal.returns
 unfolding bytes
 returns c =
-    c.starts_with.ensures.value
-    ∙ sym (begins-starts six (from 16 c.args.text.now))
+    c.begins.ensures
     ∙ by_tests c.args.text.now (omega arith) (search rules) true true (eq-eqb _ _ (sym c.first_word.ensures ∙ c.if-first_word-ne-PART_ITE.false))
     (eq-eqb _ _ (sym c.first_word-2.ensures ∙ c.if-first_word-ne-M_PLACE.false))
