@@ -109,7 +109,7 @@ impl Input {
     // The next byte; none where the input has ended, or a read fails.
     fn next(&mut self) -> Option<u8> {
         if self.at >= self.end {
-            self.end = match streams::read(&mut self.from, &mut self.bytes) {
+            self.end = match streams::read_until_stopped(&mut self.from, &mut self.bytes) {
                 Ok(count) => count,
                 Err(stopped) => stopped.count,
             };

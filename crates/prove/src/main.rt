@@ -4,7 +4,7 @@
 // One byte more than the longest text has is read, so that a longer one is seen to be longer.
 fn main(rt: HostRuntime) {
     let mut text = [0u8; 65537];
-    let Ok(n) = streams::read(&mut rt.stdin(), &mut text) else {
+    let Ok(n) = streams::read_until_stopped(&mut rt.stdin(), &mut text) else {
         let _ = streams::write(&mut rt.stderr(), b"prove: cannot read standard input\n");
         return;
     };

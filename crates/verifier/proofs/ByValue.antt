@@ -14,7 +14,7 @@ use Rattle.protocol.specs.Answers.Verdict.{Holds, Rejected}
 use Rattle.protocol.specs.Basic.{choose, first, unless, granted}
 use Rattle.protocol.specs.Element.{zeros, value_row, residue}
 use Rattle.protocol.specs.Layout.{width, rows_width}
-use Rattle.protocol.specs.Settings.{settings_refusal, residue_element, residue_rows, exponent, exponents}
+use Rattle.protocol.specs.Settings.{settings_refusal, residue_rows, exponent, exponents}
 use Rattle.protocol.specs.Session.{slots, opened, blank, start_refusal, start, shut, refused_move, part, session_round_refusal, advanced, session_round_holds, round}
 use Rattle.protocol.proofs.Agreement.{Same, every_ext, claim_same, round_same}
 use Rattle.protocol.proofs.Inputs.{settings-valid}
@@ -24,7 +24,7 @@ use Rattle.protocol.proofs.Tests.{first_zero, granted-zero, granted_refused}
 use Rattle.slices.proofs.Rows.{at_rows_ext}
 use Rattle.sizes.proofs.Limits.{degree_most}
 use Rattle.verifier_refusals.specs.Lent.{lent_rows, lent_polynomial, RowsLent}
-use Rattle.verifier_refusals.proofs.Lent.{lent_at}
+use Rattle.verifier_refusals.proofs.Lent.{lent_at, value_residues}
 use Rattle.verifier.proofs.Answers.{start-allowed}
 
 first_same : (n : ℕ) (xs ys : List ℕ) → (n ≡ 0 → first xs ≡ first ys) → first (n ∷ xs) ≡ first (n ∷ ys)
@@ -44,8 +44,7 @@ module _ (S : Settings) where
     row_at r k h l = lent_at S ok width C r k h l ∙ sym (value_row_at S C r k)
 
     same_residues : residue_rows S (lent_rows S width C) ≡ residue_rows S C
-    unfolding residue_rows residue_element
-    same_residues = every_ext rows (λ r h. every_ext d (λ k l. ap (λ x. ltb x S.modulus) (row_at r k h l)))
+    same_residues = value_residues S ok C
 
     same_row : (r : ℕ) → r < rows → Same d (residue (value_row (lent_rows S width C) r)) (residue (value_row C r))
     unfolding residue

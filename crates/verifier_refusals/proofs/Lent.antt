@@ -9,6 +9,7 @@ use lib.Seq.{get_or-drop}
 use Rattle.protocol.specs.declared.Settings.{Settings}
 use Rattle.protocol.specs.Basic.{every, all, tabulate}
 use Rattle.protocol.specs.Element.{value_row}
+use Rattle.protocol.specs.Layout.{width}
 use Rattle.ranges.proofs.Scan.{all_front}
 use Rattle.protocol.specs.Settings.{settings_refusal, residue_element, residue_rows}
 use Rattle.protocol.proofs.Agreement.{every_ext}
@@ -35,6 +36,11 @@ module _ (S : Settings) (allowed : settings_refusal S ≡ 0) (w : ℕ) (t : List
   -- row r stands in the slice
   pub lent_inside : RowsLent S w (length t) → (r : ℕ) → r < rows → r * w + d ≤ length t
   lent_inside l r h = omega (arith, l.apart, l.long, row_inside w rows r h)
+
+-- elements by value are so lent
+pub value_residues : (S : Settings) → settings_refusal S ≡ 0 → (a : List ℕ) → residue_rows S (lent_rows S width a) ≡ residue_rows S a
+unfolding residue_rows residue_element value_row
+value_residues S allowed a = every_ext S.rows (λ r hr. every_ext S.degree (λ k hk. ap (λ x. ltb x S.modulus) (lent_at S allowed width a r k hr hk ∙ sym (get_or-drop (r * width) a k 0))))
 
 -- of the numbers of a row all are tested
 pub front_tested : (q at d : ℕ) (t : List ℕ) → at + d ≤ length t → all (λ x. ltb x q) (take d (drop at t)) ≡ every d (λ k. ltb (get_or t (at + k) 0) q)
