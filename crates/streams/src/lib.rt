@@ -8,8 +8,8 @@ ghost use Rattle.std.specs.Io.KnownBytes.{Appends, Consumes, IsAtEnd};
 use std::io;
 use std::io::{ErrorKind, Read, Write};
 
-// Reads until the slice is full or the input ends, and answers how many bytes were read. Where a read fails, its error is the answer, and the bytes before it stand
-// at the front of the slice: `read_until_stopped` tells how many they are.
+// Reads until the slice is full or the input ends, and answers how many bytes were read. Where a read fails, its error is the answer; the bytes before it stand at
+// the front of the slice, and only `read_until_stopped` says how many they are.
 pub fn read<R: Read>(from: &mut R, text: &mut [u8]) -> io::Result<usize>
     ensures within { IfOk result (λ n. n ≤ length text.new) }
     ensures counted { IfOk result (λ n. n ≡ length (take n text.new)) }
