@@ -2,6 +2,7 @@
 --
 --   both base row j   what number j becomes; z is what is read behind the end of a list, and P what is asked of two numbers
 --   row_turn          a turn of such a loop
+--   RowKept, row_kept what such a loop keeps where all its numbers are allowed, and that a turn does
 --   part_filled       a part of a list that was lent and filled, as it is handed back
 --   pair_turn, front_filled   the same of a loop that fills the front of a list from two others
 --   row_added         a part of a list to which the numbers of a part of another are added, as it is handed back
@@ -60,6 +61,13 @@ module _ {A : Type 0} (z : A) (P : A → A → Type 0) (f : A → A → A) where
 
   abbrev pub Allowed : List A → List A → Type 0
   Allowed base row = (j : ℕ) → j < length base → P (get_or base j z) (get_or row j z)
+
+  abbrev pub RowKept : List A → List A → ℕ → List A → Type 0
+  RowKept base row k s = Allowed base row → s ≡ filled (both base row) k base
+
+  pub row_kept : (base row s : List A) (k : ℕ) → RowKept base row k s → k < length base → k < length row → (d y : A) {r : A} → y ≡ get_or row k y
+      → (P (get_or s k d) y → r ≡ f (get_or s k d) y) → RowKept base row (k + 1) (set s k r)
+  row_kept base row s k kept inside there d y read h = λ allowed. row_turn base row s k (kept allowed) inside there d y read h (allowed k inside)
 
   module _ (n from to : ℕ) (a out s : List A) (room : to + n ≤ length out) (h : (j : ℕ) → j < n → P (get_or out (to + j) z) (get_or a (from + j) z)) where
     abbrev row : List A

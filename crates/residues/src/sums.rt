@@ -53,9 +53,10 @@ impl Sum<i32> for Whole {
 
 // Adds a row to as many numbers, each to the one at its place, or takes it away. They stay as they are where the row is shorter.
 pub fn add_row<T: Entry, S: Sum<T>>(by: S, negative: bool, row: &[T], sums: &mut [T])
-    ensures { Provided (length sums.old ≤ length row.now)
+    ensures added { Provided (length sums.old ≤ length row.now)
         (Provided ((k : ℕ) → k < length sums.old → S.allowed by (get_or sums.old k T.NONE) (get_or row.now k T.NONE))
         (sums.new ≡ tabulate (length sums.old) (λ k. S.sum by negative (get_or sums.old k T.NONE) (get_or row.now k T.NONE)))) }
+    ensures short { Provided (length row.now < length sums.old) (sums.new ≡ sums.old) }
 {
     if row.len() < sums.len() {
         return;
